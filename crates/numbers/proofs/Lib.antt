@@ -1,0 +1,6 @@
+pub mod Branches
+pub mod CountLaws
+pub mod MemberLaws
+pub mod OverLaws
+pub mod RuleLaws
+pub mod TableRule

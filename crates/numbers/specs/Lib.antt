@@ -1,0 +1,5 @@
+pub mod Choice
+pub mod Counts
+pub mod Member
+pub mod Over
+pub mod RuleList
