@@ -5,7 +5,7 @@ use mathlib.Core.Bool.{Bool, true, false, _&&_}
 use mathlib.Core.List.{List, [], _∷_}
 use Prim.Native.Nat.{ℕ}
 use borrow.Author.Tests.{le-leb, leb-true, eq-eqb, eqb-true}
-use Rattle.numbers.specs.RuleList.{Rule, _≤ʳ_, _≡ʳ_, holds, allHold, Holds, Each}
+use Rattle.numbers.specs.RuleList.{Rule, _≤ʳ_, _≡ʳ_, _∈ʳ_, holds, allHold, Holds, Each}
 
 pub not-so : (t : Bool) → (t ≡ true → ⊥) → t ≡ false
 not-so true h = absurd (h refl)
@@ -18,10 +18,12 @@ split false b e = (e, (cc))
 holds-of : (r : Rule) → holds r ≡ true → Holds r
 holds-of (m ≤ʳ n) e = leb-true m n e
 holds-of (m ≡ʳ n) e = eqb-true m n e
+holds-of (m ∈ʳ ns) e = e
 
 of-holds : (r : Rule) → Holds r → holds r ≡ true
 of-holds (m ≤ʳ n) h = le-leb m n h
 of-holds (m ≡ʳ n) h = eq-eqb m n h
+of-holds (m ∈ʳ ns) h = h
 
 -- the test passed: each rule holds
 pub each-of : (rs : List Rule) → allHold rs ≡ true → Each rs

@@ -8,14 +8,14 @@ infixr 1 if_then_else_
 abbrev pub if_then_else_ : {A : Type 0} → Bool → A → A → A
 if b then x else y = cond b x y
 
-infix 8 _≡ᵇ_
+infix 50 _≡ᵇ_
 abbrev pub _≡ᵇ_ : ℕ → ℕ → Bool
 m ≡ᵇ n = eqb m n
 
-infix 8 _<ᵇ_
+infix 50 _<ᵇ_
 abbrev pub _<ᵇ_ : ℕ → ℕ → Bool
 m <ᵇ n = ltb m n
 
-infix 8 _≤ᵇ_
+infix 50 _≤ᵇ_
 abbrev pub _≤ᵇ_ : ℕ → ℕ → Bool
 m ≤ᵇ n = leb m n

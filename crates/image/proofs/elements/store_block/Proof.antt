@@ -1,0 +1,63 @@
+-- `elements::store_block` meets its contract.
+-- Assumes nothing.
+use Rattle.image.proofs.StoreLaws.{stored}
+use borrow.Author.Needs.{needs}
+use Rattle.image.proofs.elements.store_block.Statement.{statement}
+use Rattle.image.proofs.elements.store_block.Tie as tie
+
+span-requires : tie.Need-span-requires
+span-requires c κs = search needs
+
+add-from : tie.Need-add-from
+add-from c = search needs
+
+add-to : tie.Need-add-to
+add-to c = search needs
+
+sub-copy-block : tie.Need-sub-copy-block
+sub-copy-block c = search needs
+
+part-copy-block-start : tie.Need-part-copy-block-start
+part-copy-block-start c = search needs
+
+part-copy-block-end : tie.Need-part-copy-block-end
+part-copy-block-end c = search needs
+
+sub-copy-block-2 : tie.Need-sub-copy-block-2
+sub-copy-block-2 c = search needs
+
+part-copy-block-start-2 : tie.Need-part-copy-block-start-2
+part-copy-block-start-2 c = search needs
+
+part-copy-block-end-2 : tie.Need-part-copy-block-end-2
+part-copy-block-end-2 c = search needs
+
+copy-block-requires : tie.Need-copy-block-requires
+copy-block-requires c κs = search needs
+
+record-as-requires : tie.Need-record-as-requires
+record-as-requires c κs = search needs
+
+same-length : tie.Need-same-length
+same-length c = search needs
+
+returns : tie.Need-returns
+returns c = search stored
+
+pub store-block-spec : {M : Type 1} → statement M
+store-block-spec =
+    tie.close
+    (tie.spec
+    span-requires
+    add-from
+    add-to
+    sub-copy-block
+    part-copy-block-start
+    part-copy-block-end
+    sub-copy-block-2
+    part-copy-block-start-2
+    part-copy-block-end-2
+    copy-block-requires
+    record-as-requires
+    same-length
+    returns)

@@ -1,0 +1,58 @@
+// 01: "Element i has its kind at K + i and its bytes at D + i*B."
+ghost use mathlib.Core.Path.{_≡_};
+ghost use Prim.Native.Nat.{_+_, _*_, _<_, _≤_};
+ghost use lib.ListN.{length};
+ghost use Rattle.numbers.specs.Over.{part};
+ghost use Rattle.image.specs.Elements.{kindAt, recordAs, storeBlock, storeFilemark};
+use crate::header::span;
+use numbers::copying::copy_block;
+use numbers::counts::put_count4;
+
+pub enum Kind {
+    Data,
+    Filemark,
+    Unreadable,
+}
+
+const DATA: u8 = 1;
+const FILEMARK: u8 = 2;
+const RECORDED_FIELD: usize = 8;
+
+pub fn kind_at(image: &[u8], kinds: usize, i: usize) -> Kind
+    requires { ⌜ kinds + i < length (now image) ⌝ }
+    ensures { λ r. ⌜ r ≡ kindAt (now (image .entry)) kinds i ⌝ }
+{
+    match image[kinds + i] {
+        1 => Kind::Data,
+        2 => Kind::Filemark,
+        _ => Kind::Unreadable,
+    }
+}
+
+// Element i gets its kind, and is the last one recorded.
+fn record_as(image: &mut [u8], kinds: usize, i: usize, kind: u8)
+    requires { ⌜ (12 ≤ length (now image)) × (kinds + i < length (now image)) ⌝ }
+    ensures { λ _. ⌜ now (image .exit) ≡ recordAs (now (image .entry)) kinds i kind ⌝ }
+{
+    image[kinds + i] = kind;
+    put_count4(image, RECORDED_FIELD, i + 1);
+}
+
+// The block that stands in src from place off on becomes element i.
+pub fn store_block(image: &mut [u8], size: usize, kinds: usize, blocks: usize, i: usize, src: &[u8], off: usize)
+    requires { ⌜ ((size ≤ 1024) × (i < 65535)) × ((12 ≤ kinds) × ((kinds + i < blocks) × ((blocks + (i + 1) * size ≤ length (now image)) × (off + size ≤ length (now src))))) ⌝ }
+    ensures { λ _. ⌜ now (image .exit) ≡ storeBlock (now (image .entry)) size kinds blocks i (part (now (src .entry)) off size) ⌝ }
+{
+    let from = blocks + span(i, size);
+    let to = off + size;
+    copy_block(&mut image[from..], &src[off..to]);
+    record_as(image, kinds, i, DATA);
+}
+
+// A filemark becomes element i; no block's bytes change.
+pub fn store_filemark(image: &mut [u8], kinds: usize, i: usize)
+    requires { ⌜ (12 ≤ length (now image)) × (kinds + i < length (now image)) ⌝ }
+    ensures { λ _. ⌜ now (image .exit) ≡ storeFilemark (now (image .entry)) kinds i ⌝ }
+{
+    record_as(image, kinds, i, FILEMARK);
+}
