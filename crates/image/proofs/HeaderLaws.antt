@@ -47,10 +47,10 @@ sized : (b : ℕ) → isIn b blockSizes ≡ true → (512 ≤ b) × (b ≤ 1024)
 unfolding isIn
 sized b e = by-size (eqb 512 b) (eqb 1024 b) refl refl e
   where
-  by-size : (x y : Bool) → eqb 512 b ≡ x → eqb 1024 b ≡ y → (x || (y || false)) ≡ true → (512 ≤ b) × (b ≤ 1024)
-  by-size true y p q e = let g = eqb-true 512 b p in omega arith
-  by-size false true p q e = let g = eqb-true 1024 b q in omega arith
-  by-size false false p q e = absurd (false≢true e)
+    by-size : (x y : Bool) → eqb 512 b ≡ x → eqb 1024 b ≡ y → (x || (y || false)) ≡ true → (512 ≤ b) × (b ≤ 1024)
+    by-size true y p q e = let g = eqb-true 512 b p in omega arith
+    by-size false true p q e = let g = eqb-true 1024 b q in omega arith
+    by-size false false p q e = absurd (false≢true e)
 
 pub has-header : (s : List ℕ) (a : Bool) → a ≡ allHold (fixedBytes s) → a ≡ true → 32 ≤ length s
 has-header s a p q = each-of (fixedBytes s) (sym p ∙ q) .0

@@ -155,9 +155,9 @@ module _ (s : List ℕ) (h : Header) (good : headerOf s ≡ Good h) (i : ℕ) (w
 apart : (j i : ℕ) → (j ≡ i → ⊥) → (j < i) ⊎ (i < j)
 apart j i n = by (ltb j i) refl
   where
-  by : (t : Bool) → ltb j i ≡ t → (j < i) ⊎ (i < j)
-  by true e = inl (ltb-true j i e)
-  by false e = let g = ltb-false j i e in inr (omega (arith, n))
+    by : (t : Bool) → ltb j i ≡ t → (j < i) ⊎ (i < j)
+    by true e = inl (ltb-true j i e)
+    by false e = let g = ltb-false j i e in inr (omega (arith, n))
 
 -- ---- 01, 10h: a filemark stored as element i
 

@@ -15,7 +15,9 @@ pub enum Kind {
 }
 
 const DATA: u8 = 1;
+
 const FILEMARK: u8 = 2;
+
 const RECORDED_FIELD: usize = 8;
 
 pub fn kind_at(image: &[u8], kinds: usize, i: usize) -> Kind
@@ -39,7 +41,15 @@ fn record_as(image: &mut [u8], kinds: usize, i: usize, kind: u8)
 }
 
 // The block that stands in src from place off on becomes element i.
-pub fn store_block(image: &mut [u8], size: usize, kinds: usize, blocks: usize, i: usize, src: &[u8], off: usize)
+pub fn store_block(
+    image: &mut [u8],
+    size: usize,
+    kinds: usize,
+    blocks: usize,
+    i: usize,
+    src: &[u8],
+    off: usize,
+)
     requires { ⌜ ((size ≤ 1024) × (i < 65535)) × ((12 ≤ kinds) × ((kinds + i < blocks) × ((blocks + (i + 1) * size ≤ length (now image)) × (off + size ≤ length (now src))))) ⌝ }
     ensures { λ _. ⌜ now (image .exit) ≡ storeBlock (now (image .entry)) size kinds blocks i (part (now (src .entry)) off size) ⌝ }
 {

@@ -9,14 +9,14 @@ use numbers::counts::count2;
 use numbers::counts::count4;
 
 pub struct Header {
-    pub size: usize,      // B, bytes of a block
-    pub capacity: usize,  // C, elements
-    pub recorded: usize,  // U, elements recorded
-    pub kinds: usize,     // K, where the kind table starts
-    pub blocks: usize,    // D, where the blocks start
-    pub warning: usize,   // W, early warning
-    pub protect: u8,      // 1 where the cartridge is write protected
-    pub medium: u8,       // medium type
+    pub size: usize, // B, bytes of a block
+    pub capacity: usize, // C, elements
+    pub recorded: usize, // U, elements recorded
+    pub kinds: usize, // K, where the kind table starts
+    pub blocks: usize, // D, where the blocks start
+    pub warning: usize, // W, early warning
+    pub protect: u8, // 1 where the cartridge is write protected
+    pub medium: u8, // medium type
 }
 
 // What the header function finds.
@@ -26,7 +26,9 @@ pub enum Judged {
 }
 
 const HEADER_LENGTH: usize = 32;
+
 const MOST_ELEMENTS: usize = 65535;
+
 const BROKEN_IMAGE: u8 = 2;
 
 // Elements and bytes of a block within their bounds make at most 67,107,840 bytes: more than 16 bits, and no overflow.
