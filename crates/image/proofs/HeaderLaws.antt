@@ -81,6 +81,7 @@ pub record Sound (h : Header) (n : ℕ) : Type 0 where
   pub kinds-after : 32 ≤ h .kinds
   pub blocks-after : h .kinds + h .capacity ≤ h .blocks
   pub all-within : h .blocks + h .capacity * h .size ≤ n
+  pub recorded-blocks : h .blocks + h .recorded * h .size ≤ n
 
 picked : (t : Bool) (f h : Header) → cond t (Good f) Broken ≡ Good h → (t ≡ true) × (f ≡ h)
 picked true f h e = (refl, (cc))
@@ -112,6 +113,7 @@ module _ (s : List ℕ) (h : Header) (good : headerOf s ≡ Good h) where
       let r = each-range in
       let p = each-place in
       let z = sized (h .size) (r .1 .1 .1 .1 .1 .0) in
+      let m = mul-le-mul-right (h .size) (r .1 .1 .0) in
       record {
         size-least = z .0;
         size-most = z .1;
@@ -123,6 +125,7 @@ module _ (s : List ℕ) (h : Header) (good : headerOf s ≡ Good h) where
         kinds-after = p .0;
         blocks-after = p .1 .0;
         all-within = p .1 .1 .0;
+        recorded-blocks = omega arith;
       }
 
 pub good-by : (s : List ℕ) (h : Header) → fieldsOf s ≡ h → Each (fixedBytes s) → Each (fieldRanges h) → Each (placeRules h (length s)) → headerOf s ≡ Good h

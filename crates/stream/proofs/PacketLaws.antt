@@ -1,0 +1,115 @@
+-- The ways of `decide` and `packet`.
+-- Assumes nothing.
+use mathlib.Core.Path.{_≡_, refl, sym, ap, _∙_}
+use mathlib.Core.Bool.{Bool, true, false, not, cond, _&&_}
+use mathlib.Core.List.{List}
+use Prim.Native.Nat.{ℕ, _≤_}
+use native.Mathlib.Omega.{arith}
+use borrow.Author.Tests.{eq-eqb, ne-eqb, leb-true, ltb-false}
+use lib.ListN.{length}
+use Rattle.numbers.specs.Choice.{_<ᵇ_}
+use Rattle.numbers.proofs.RuleLaws.{split}
+use Rattle.image.specs.declared.header.Header.{Header}
+use Rattle.image.specs.declared.header.Judged.{Judged}
+use Rattle.image.specs.declared.header.Judged.the-variants.{Good, Broken}
+use Rattle.image.specs.Header.{headerOf}
+use Rattle.stream.specs.declared.requests.Request.{Request}
+use Rattle.stream.specs.declared.state.Outcome.{Outcome}
+use Rattle.stream.specs.declared.state.Sense.{Sense}
+use Rattle.stream.specs.declared.state.State.{State}
+use Rattle.stream.specs.declared.state.Verdict.{Verdict}
+use Rattle.stream.specs.declared.state.Verdict.the-variants.{Refuses, Ends, Works}
+use Rattle.stream.specs.Answers.{done, refused, endsBefore, shortBuffer}
+use Rattle.stream.specs.Checks.{isPending, conditionsOf, isUnknown, badFieldOf, badListLengthOf, neededBy, verdictOf}
+use Rattle.stream.specs.Packet.{carriedOut, decided, judged, packetStep}
+use Rattle.stream.specs.Replies.{isProtected}
+use Rattle.stream.specs.Requests.{requestOf}
+use Rattle.stream.specs.Senses.{unitAttention, invalidOpcode, invalidField, wrongListLength, notLoaded, writeProtected}
+use Rattle.stream.specs.States.{keepsRecordRules}
+use Rattle.stream.specs.Work.{workOf}
+
+-- ---- a packet that comes to its work has the room that it needs
+
+not-works : (x : Sense) → Ends x ≡ Works → ⊥
+not-works x e = let z : _≡_ {A = ℕ} 0 1 = cc in omega arith
+
+past : (b : Bool) (x : Sense) (y : Verdict) → cond b (Ends x) y ≡ Works → y ≡ Works
+past true x y e = absurd (not-works x e)
+past false x y e = e
+
+last : (b : Bool) (n : ℕ) → cond b (Refuses n) Works ≡ Works → b ≡ false
+last true n e = let z : _≡_ {A = ℕ} 0 1 = cc in absurd (omega arith)
+last false n e = refl
+
+module _ (h : Header) (st : State) (q : Request) (room : ℕ) where
+  abbrev short : Bool
+  short = room <ᵇ neededBy (q .command) h q
+
+  abbrev from-protection : Verdict
+  from-protection = cond (conditionsOf (q .command) .stores && isProtected h) (Ends writeProtected) (cond short (Refuses shortBuffer) Works)
+
+  abbrev from-tape : Verdict
+  from-tape = cond (conditionsOf (q .command) .mounted && not (st .loaded)) (Ends notLoaded) from-protection
+
+  abbrev from-length : Verdict
+  from-length = cond (badListLengthOf (q .command) q) (Ends wrongListLength) from-tape
+
+  abbrev from-fields : Verdict
+  from-fields = cond (badFieldOf (q .command) q) (Ends invalidField) from-length
+
+  abbrev from-opcode : Verdict
+  from-opcode = cond (isUnknown (q .command)) (Ends invalidOpcode) from-fields
+
+  pub works-room : (v : Verdict) → v ≡ verdictOf h st q room → v ≡ Works → neededBy (q .command) h q ≤ room
+  unfolding verdictOf
+  works-room v p e =
+      let e0 = past (isPending (st .attention) && not (conditionsOf (q .command) .exempt)) (unitAttention (st .attention)) from-opcode (sym p ∙ e) in
+      let e1 = past (isUnknown (q .command)) invalidOpcode from-fields e0 in
+      let e2 = past (badFieldOf (q .command) q) invalidField from-length e1 in
+      let e3 = past (badListLengthOf (q .command) q) wrongListLength from-tape e2 in
+      let e4 = past (conditionsOf (q .command) .mounted && not (st .loaded)) notLoaded from-protection e3 in
+      let e5 = past (conditionsOf (q .command) .stores && isProtected h) writeProtected (cond short (Refuses shortBuffer) Works) e4 in
+      ltb-false room (neededBy (q .command) h q) (last short shortBuffer e5)
+
+-- ---- the ways of `decide`
+
+module _ (s : List ℕ) (h : Header) (st : State) (q : Request) (buf : List ℕ) (v : Verdict) (r : Outcome) where
+  pub was-refused : (n : ℕ) → v ≡ verdictOf h st q (length buf) → v ≡ Refuses n → r ≡ refused st n → done r s buf ≡ decided s h st q buf
+  unfolding decided carriedOut
+  was-refused n p e t = rw (← p, e, t)
+
+  pub ended-before : (x : Sense) → v ≡ verdictOf h st q (length buf) → v ≡ Ends x → r ≡ endsBefore st x → done r s buf ≡ decided s h st q buf
+  unfolding decided carriedOut
+  ended-before x p e t = rw (← p, e, t)
+
+  pub worked : (s' b' : List ℕ) → v ≡ verdictOf h st q (length buf) → v ≡ Works → done r s' b' ≡ workOf (q .command) s h st q buf
+      → done r s' b' ≡ decided s h st q buf
+  unfolding decided carriedOut
+  worked s' b' p e t = rw (← p, e) t
+
+-- ---- the ways of `packet`
+
+pub rules-say : (h : Header) (st : State) (b : Bool) → b ≡ keepsRecordRules h st → b ≡ true → (st .position ≤ h .recorded) × (st .sense .key ≤ 15)
+unfolding keepsRecordRules
+rules-say h st b p e =
+    let x = split _ _ (sym p ∙ e) in
+    (leb-true _ _ (split _ _ (x .0) .0), leb-true _ _ (x .1))
+
+module _ (s : List ℕ) (st : State) (packet buf : List ℕ) (r : Outcome) where
+  pub not-twelve : (length packet ≡ 12 → ⊥) → r ≡ refused st 1 → done r s buf ≡ packetStep s st packet buf
+  unfolding packetStep
+  not-twelve n t = rw (ne-eqb _ _ n, t)
+
+  module _ (twelve : length packet ≡ 12) (x : Judged) (found : x ≡ headerOf s) where
+    pub no-header : x ≡ Broken → r ≡ refused st 2 → done r s buf ≡ packetStep s st packet buf
+    unfolding packetStep judged
+    no-header e t = rw (eq-eqb _ _ twelve, ← found, e, t)
+
+    module _ (h : Header) (b : Bool) (good : x ≡ Good h) (rules : b ≡ keepsRecordRules h st) where
+      pub no-record : b ≡ false → r ≡ refused st 3 → done r s buf ≡ packetStep s st packet buf
+      unfolding packetStep judged
+      no-record e t = rw (eq-eqb _ _ twelve, ← found, good, ← rules, e, t)
+
+      pub went-on : (q : Request) (s' b' : List ℕ) → b ≡ true → q ≡ requestOf packet → done r s' b' ≡ decided s h st q buf → done r s' b' ≡ packetStep s st packet buf
+      unfolding packetStep judged
+      went-on q s' b' e p t = rw (eq-eqb _ _ twelve, ← found, good, ← rules, e, ← p) t

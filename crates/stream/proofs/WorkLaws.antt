@@ -1,0 +1,142 @@
+-- The ways of the commands' functions.
+-- Assumes nothing.
+use mathlib.Core.Path.{_≡_, refl, sym, ap, _∙_}
+use mathlib.Core.Bool.{Bool, true, false}
+use mathlib.Core.List.{List, _++_}
+use Prim.Native.Nat.{ℕ, _*_, _-_, _≤_, _<_, min}
+use lib.ListN.{length, take}
+use Rattle.numbers.specs.Over.{over}
+use Rattle.image.specs.declared.header.Header.{Header}
+use Rattle.opcodes.specs.declared.Command.{Command}
+use Rattle.opcodes.specs.declared.Command.the-variants.{Unknown, TestUnitReady, Rewind, RequestSense, Read, Write, WriteFilemarks, Space, Inquiry, ModeSelect, ModeSense, LoadUnload, Locate, ReadPosition}
+use Rattle.transfer.specs.declared.Moved.{Moved}
+use Rattle.transfer.specs.Reading.{Reading, reads, readFrom}
+use Rattle.transfer.specs.Writing.{Writing, writes, writeFrom, markFrom}
+use Rattle.transfer.proofs.ReadLaws.{read-left}
+use Rattle.transfer.proofs.WriteLaws.{write-left, mark-left}
+use Rattle.stream.specs.declared.requests.Request.{Request}
+use Rattle.stream.specs.declared.state.Ending.{Ending}
+use Rattle.stream.specs.declared.state.Ending.the-variants.{Good}
+use Rattle.stream.specs.declared.state.Outcome.{Outcome}
+use Rattle.stream.specs.declared.state.State.{State}
+use Rattle.stream.specs.Answers.{Step, done, ends}
+use Rattle.stream.specs.Checks.{neededBy}
+use Rattle.stream.specs.Replies.{senseBytes, inquiryBytes, hasPage, modeHeader, modePage, modeBytes, positionBytes}
+use Rattle.stream.specs.Requests.{spaceCode, loadBit}
+use Rattle.stream.specs.States.{atPlace}
+use Rattle.stream.specs.Work.{endingOf, moves, readEnds, readWork, writeEnding, writeEnds, writeWork, markWork, spaceWork, firstOf, replyEnds, selectWork, loadWork, locateWork, workOf}
+
+-- ---- READ, WRITE, WRITE FILEMARK
+
+module _ (s : List ℕ) (h : Header) (st : State) (asked : ℕ) (buf new : List ℕ) (m : Moved)
+    (run : reads new m ≡ readFrom s (h .size) (h .kinds) (h .blocks) (h .recorded) asked 0 (st .position) buf) where
+  pub read-less : m .left ≤ asked
+  read-less = rw (ap (λ (r : Reading). r .moved .left) run) (read-left s (h .size) (h .kinds) (h .blocks) (h .recorded) asked 0 (st .position) buf)
+
+  pub read-went : (x : Ending) (r : Outcome) → x ≡ endingOf (m .stop) (m .left) → r ≡ moves st asked (h .size) m x
+      → done r s new ≡ readWork s h st asked buf
+  unfolding readWork readEnds
+  read-went x r p q = rw (← run, q, p)
+
+module _ (s : List ℕ) (h : Header) (st : State) (asked : ℕ) (buf new : List ℕ) (m : Moved)
+    (run : writes new m ≡ writeFrom (h .size) (h .kinds) (h .blocks) (h .capacity) buf asked 0 (st .position) s) where
+  pub write-less : m .left ≤ asked
+  write-less = rw (ap (λ (r : Writing). r .moved .left) run) (write-left (h .size) (h .kinds) (h .blocks) (h .capacity) buf asked 0 (st .position) s)
+
+  pub write-went : (x : Ending) (r : Outcome) → x ≡ writeEnding h asked m → r ≡ moves st asked (h .size) m x → done r new buf ≡ writeWork s h st asked buf
+  unfolding writeWork writeEnds
+  write-went x r p q = rw (← run, q, p)
+
+module _ (s : List ℕ) (h : Header) (st : State) (asked : ℕ) (buf new : List ℕ) (m : Moved)
+    (run : writes new m ≡ markFrom (h .kinds) (h .capacity) asked (st .position) s) where
+  pub mark-less : m .left ≤ asked
+  mark-less = rw (ap (λ (r : Writing). r .moved .left) run) (mark-left (h .kinds) (h .capacity) asked (st .position) s)
+
+  pub mark-went : (x : Ending) (r : Outcome) → x ≡ writeEnding h asked m → r ≡ moves st asked 0 m x → done r new buf ≡ markWork s h st asked buf
+  unfolding markWork writeEnds
+  mark-went x r p q = rw (← run, q, p)
+
+-- ---- the first of some bytes
+
+pub reply-went : (bytes : List ℕ) (asked n : ℕ) (st : State) (buf new : List ℕ) (r : Outcome) → n ≡ min asked (length bytes) → r ≡ ends st Good 0 n
+    → new ≡ over buf 0 (take n bytes) → (r ≡ replyEnds bytes asked st) × (new ≡ over buf 0 (firstOf bytes asked))
+unfolding replyEnds firstOf
+reply-went bytes asked n st buf new r p q e = (rw (q, p), rw (e, p))
+
+-- the bytes given are those that are meant
+pub replied-as : (bytes meant : List ℕ) (asked : ℕ) (st : State) (buf new : List ℕ) (r : Outcome) → bytes ≡ meant → r ≡ replyEnds bytes asked st
+    → new ≡ over buf 0 (firstOf bytes asked) → (r ≡ replyEnds meant asked st) × (new ≡ over buf 0 (firstOf meant asked))
+replied-as bytes meant asked st buf new r e p q =
+    (p ∙ ap (λ (b : List ℕ). replyEnds b asked st) e, q ∙ ap (λ (b : List ℕ). over buf 0 (firstOf b asked)) e)
+
+pub with-page : (h : Header) (st : State) (q : Request) → hasPage q ≡ true → modeHeader h 31 ++ modePage h st ≡ modeBytes h st q
+with-page h st q e = rw e
+
+pub without-page : (h : Header) (st : State) (q : Request) → hasPage q ≡ false → modeHeader h 11 ≡ modeBytes h st q
+without-page h st q e = rw e
+
+-- ---- by command
+
+pub needed-as : (k d : Command) (h : Header) (q : Request) (n : ℕ) → k ≡ d → neededBy k h q ≤ n → neededBy d h q ≤ n
+needed-as k d h q n e l = rw e at l
+
+module _ (k : Command) (s : List ℕ) (h : Header) (st : State) (q : Request) (buf : List ℕ) (r : Outcome) where
+  pub was-unknown : k ≡ Unknown → r ≡ ends st Good 0 0 → done r s buf ≡ workOf k s h st q buf
+  unfolding workOf
+  was-unknown e p = rw (e, p)
+
+  pub was-tested : k ≡ TestUnitReady → r ≡ ends st Good 0 0 → done r s buf ≡ workOf k s h st q buf
+  unfolding workOf
+  was-tested e p = rw (e, p)
+
+  pub was-rewound : (t : State) → k ≡ Rewind → t ≡ atPlace st 0 → r ≡ ends t Good 0 0 → done r s buf ≡ workOf k s h st q buf
+  unfolding workOf
+  was-rewound t e a p = rw (e, p, a)
+
+  pub was-spaced : k ≡ Space → r ≡ spaceWork s h st (spaceCode q) (q .count) → done r s buf ≡ workOf k s h st q buf
+  unfolding workOf
+  was-spaced e p = rw (e, p)
+
+  pub was-selected : k ≡ ModeSelect → r ≡ selectWork st (q .length) buf → done r s buf ≡ workOf k s h st q buf
+  unfolding workOf
+  was-selected e p = rw (e, p)
+
+  pub was-loaded : k ≡ LoadUnload → r ≡ loadWork st (loadBit q) → done r s buf ≡ workOf k s h st q buf
+  unfolding workOf
+  was-loaded e p = rw (e, p)
+
+  pub was-located : k ≡ Locate → r ≡ locateWork h st (q .target) → done r s buf ≡ workOf k s h st q buf
+  unfolding workOf
+  was-located e p = rw (e, p)
+
+  module _ (new : List ℕ) where
+    pub was-sensed : k ≡ RequestSense → r ≡ replyEnds (senseBytes (st .sense)) (q .length) st → new ≡ over buf 0 (firstOf (senseBytes (st .sense)) (q .length))
+        → done r s new ≡ workOf k s h st q buf
+    unfolding workOf
+    was-sensed e p n = rw (e, p, n)
+
+    pub was-read : k ≡ Read → done r s new ≡ readWork s h st (q .count) buf → done r s new ≡ workOf k s h st q buf
+    unfolding workOf
+    was-read e p = rw e p
+
+    pub was-written : k ≡ Write → done r new buf ≡ writeWork s h st (q .count) buf → done r new buf ≡ workOf k s h st q buf
+    unfolding workOf
+    was-written e p = rw e p
+
+    pub was-marked : k ≡ WriteFilemarks → done r new buf ≡ markWork s h st (q .count) buf → done r new buf ≡ workOf k s h st q buf
+    unfolding workOf
+    was-marked e p = rw e p
+
+    pub was-asked : k ≡ Inquiry → r ≡ replyEnds inquiryBytes (q .length) st → new ≡ over buf 0 (firstOf inquiryBytes (q .length)) → done r s new ≡ workOf k s h st q buf
+    unfolding workOf
+    was-asked e p n = rw (e, p, n)
+
+    pub was-shown : k ≡ ModeSense → r ≡ replyEnds (modeBytes h st q) (q .length) st → new ≡ over buf 0 (firstOf (modeBytes h st q) (q .length))
+        → done r s new ≡ workOf k s h st q buf
+    unfolding workOf
+    was-shown e p n = rw (e, p, n)
+
+    pub was-placed : k ≡ ReadPosition → r ≡ replyEnds (positionBytes h st) 20 st → new ≡ over buf 0 (firstOf (positionBytes h st) 20)
+        → done r s new ≡ workOf k s h st q buf
+    unfolding workOf
+    was-placed e p n = rw (e, p, n)

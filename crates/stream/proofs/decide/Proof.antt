@@ -1,0 +1,61 @@
+-- `decide` meets its contract.
+-- Assumes nothing.
+use native.Mathlib.Omega.{arith}
+use Rattle.image.proofs.HeaderLaws.{sound}
+use Rattle.stream.proofs.PacketLaws.{works-room, was-refused, ended-before, worked}
+use borrow.Author.Needs.{needs}
+use Rattle.stream.proofs.decide.Statement.{statement}
+use Rattle.stream.proofs.decide.Tie as tie
+
+verdict-requires : tie.Need-verdict-requires
+verdict-requires c κs = let g = sound _ _ (c .before .before .pre .0 .0) in omega arith
+
+enum-known-found : tie.Need-enum-known-found
+enum-known-found c = search needs
+
+refuse-requires : tie.Need-refuse-requires
+refuse-requires c κs = search needs
+
+enum-known-found-2 : tie.Need-enum-known-found-2
+enum-known-found-2 c = search needs
+
+end-before-requires : tie.Need-end-before-requires
+end-before-requires c κs = search needs
+
+enum-told : tie.Need-enum-told
+enum-told c = search needs
+
+work-requires : tie.Need-work-requires
+work-requires c κs = (c .before .before .before .before .before .before .before .pre .0, (c .before .before .before .before .before .before .before .pre .1, works-room (c .before .before .before .before .before .before .before .args .h) (c .before .before .before .before .before .before .before .args .state) (c .before .before .before .before .before .before .before .args .q) _ _ (c .before .before .before .before .verdict .ensures) (c .before .before .enum-told .given .1)))
+
+returns : tie.Need-returns
+returns c = search was-refused
+
+returns-2 : tie.Need-returns-2
+returns-2 c = search ended-before
+
+same-length : tie.Need-same-length
+same-length c = search needs
+
+same-length-2 : tie.Need-same-length-2
+same-length-2 c = search needs
+
+returns-3 : tie.Need-returns-3
+returns-3 c = search worked
+
+pub decide-spec : {M : Type 1} → statement M
+decide-spec =
+    tie.close
+    (tie.spec
+    verdict-requires
+    enum-known-found
+    refuse-requires
+    enum-known-found-2
+    end-before-requires
+    enum-told
+    work-requires
+    returns
+    returns-2
+    same-length
+    same-length-2
+    returns-3)

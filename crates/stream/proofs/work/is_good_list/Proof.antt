@@ -1,0 +1,36 @@
+-- `work::is_good_list` meets its contract.
+-- Assumes nothing.
+use Rattle.stream.specs.Work.{goodList}
+use borrow.Author.Needs.{needs}
+use Rattle.stream.proofs.work.is_good_list.Statement.{statement}
+use Rattle.stream.proofs.work.is_good_list.Tie as tie
+
+count2-requires : tie.Need-count2-requires
+count2-requires c κs = search needs
+
+cast-is-speed : tie.Need-cast-is-speed
+cast-is-speed c = search needs
+
+is-speed-requires : tie.Need-is-speed-requires
+is-speed-requires c κs = search needs
+
+shared-slice-read-result : tie.Need-shared-slice-read-result
+shared-slice-read-result c = search needs
+
+shared-slice-read-result-2 : tie.Need-shared-slice-read-result-2
+shared-slice-read-result-2 c = search needs
+
+returns : tie.Need-returns
+unfolding goodList
+returns c = simp (c .before .before .is-speed .ensures, c .before .before .before .count2 .ensures .0)
+
+pub is-good-list-spec : {M : Type 1} → statement M
+is-good-list-spec =
+    tie.close
+    (tie.spec
+    count2-requires
+    cast-is-speed
+    is-speed-requires
+    shared-slice-read-result
+    shared-slice-read-result-2
+    returns)

@@ -1,0 +1,19 @@
+-- `work::load_unload` meets its contract.
+-- Assumes nothing.
+use Rattle.stream.specs.Work.{loadWork}
+use borrow.Author.Needs.{needs}
+use Rattle.stream.proofs.work.load_unload.Statement.{statement}
+use Rattle.stream.proofs.work.load_unload.Tie as tie
+
+stand-at-requires : tie.Need-stand-at-requires
+stand-at-requires c κs = search needs
+
+end-requires : tie.Need-end-requires
+end-requires c κs = search needs
+
+returns : tie.Need-returns
+unfolding loadWork
+returns c = simp (c .end .ensures, c .before .stand-at .ensures)
+
+pub load-unload-spec : {M : Type 1} → statement M
+load-unload-spec = tie.close (tie.spec stand-at-requires end-requires returns)

@@ -1,0 +1,57 @@
+-- `work::mode_sense` meets its contract.
+-- Assumes nothing.
+use native.Mathlib.Omega.{arith}
+use mathlib.Core.Path.{sym, _∙_}
+use Rattle.stream.proofs.WorkLaws.{replied-as, with-page, without-page}
+use borrow.Author.Needs.{needs}
+use Rattle.stream.proofs.work.mode_sense.Statement.{statement}
+use Rattle.stream.proofs.work.mode_sense.Tie as tie
+
+cast-asked : tie.Need-cast-asked
+cast-asked c = search needs
+
+mode-whole-requires : tie.Need-mode-whole-requires
+mode-whole-requires c κs = search needs
+
+slice-aggregate-reply : tie.Need-slice-aggregate-reply
+slice-aggregate-reply c = search needs
+
+reply-requires : tie.Need-reply-requires
+reply-requires c κs = let p = rw (c .before .before .before .if1 .taken) at (c .before .before .before .before .before .before .before .pre) in omega arith
+
+same-length : tie.Need-same-length
+same-length c = search needs
+
+returns : tie.Need-returns
+returns c = replied-as _ _ _ _ _ _ _ (c .before .before .before .before .before .mode-whole .ensures ∙ with-page (c .before .before .before .before .before .before .before .before .before .before .args .h) (c .before .before .before .before .before .before .before .before .before .before .args .state) (c .before .before .before .before .before .before .before .before .before .before .args .q) (c .before .before .before .before .before .before .if1 .taken)) (c .before .before .reply .ensures .0) (c .before .before .reply .ensures .1)
+
+mode-header-requires : tie.Need-mode-header-requires
+mode-header-requires c κs = search needs
+
+slice-aggregate-reply-2 : tie.Need-slice-aggregate-reply-2
+slice-aggregate-reply-2 c = search needs
+
+reply-requires-2 : tie.Need-reply-requires-2
+reply-requires-2 c κs = let p = rw (c .before .before .before .if1 .left) at (c .before .before .before .before .before .before .before .pre) in omega arith
+
+same-length-2 : tie.Need-same-length-2
+same-length-2 c = search needs
+
+returns-2 : tie.Need-returns-2
+returns-2 c = replied-as _ _ _ _ _ _ _ (c .before .before .before .before .before .mode-header .ensures ∙ without-page (c .before .before .before .before .before .before .before .before .before .before .args .h) (c .before .before .before .before .before .before .before .before .before .before .args .state) (c .before .before .before .before .before .before .before .before .before .before .args .q) (c .before .before .before .before .before .before .if1 .left)) (c .before .before .reply2 .ensures .0) (c .before .before .reply2 .ensures .1)
+
+pub mode-sense-spec : {M : Type 1} → statement M
+mode-sense-spec =
+    tie.close
+    (tie.spec
+    cast-asked
+    mode-whole-requires
+    slice-aggregate-reply
+    reply-requires
+    same-length
+    returns
+    mode-header-requires
+    slice-aggregate-reply-2
+    reply-requires-2
+    same-length-2
+    returns-2)

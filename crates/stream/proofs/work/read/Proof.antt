@@ -1,0 +1,28 @@
+-- `work::read` meets its contract.
+-- Assumes nothing.
+use native.Mathlib.Omega.{arith}
+use Rattle.image.proofs.HeaderLaws.{sound}
+use Rattle.stream.proofs.WorkLaws.{read-less, read-went}
+use borrow.Author.Needs.{needs}
+use Rattle.stream.proofs.work.read.Statement.{statement}
+use Rattle.stream.proofs.work.read.Tie as tie
+
+read-blocks-requires : tie.Need-read-blocks-requires
+read-blocks-requires c κs = let g = sound _ _ (c .before .before .before .pre .0) in omega arith
+
+ending-of-requires : tie.Need-ending-of-requires
+ending-of-requires c κs = search needs
+
+end-moved-requires : tie.Need-end-moved-requires
+end-moved-requires c κs = let g = sound _ _ (c .before .before .before .before .before .before .before .pre .0) in let l = read-less _ (c .before .before .before .before .before .before .before .args .h) (c .before .before .before .before .before .before .before .args .state) _ _ _ _ (c .before .before .before .read-blocks .ensures) in omega arith
+
+same-length : tie.Need-same-length
+same-length c = search needs
+
+returns : tie.Need-returns
+returns c = search read-went
+
+pub read-spec : {M : Type 1} → statement M
+read-spec =
+    tie.close
+    (tie.spec read-blocks-requires ending-of-requires end-moved-requires same-length returns)

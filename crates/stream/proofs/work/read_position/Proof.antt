@@ -1,0 +1,26 @@
+-- `work::read_position` meets its contract.
+-- Assumes nothing.
+use Rattle.stream.proofs.WorkLaws.{replied-as}
+use borrow.Author.Needs.{needs}
+use Rattle.stream.proofs.work.read_position.Statement.{statement}
+use Rattle.stream.proofs.work.read_position.Tie as tie
+
+position-bytes-requires : tie.Need-position-bytes-requires
+position-bytes-requires c κs = search needs
+
+slice-aggregate-reply : tie.Need-slice-aggregate-reply
+slice-aggregate-reply c = search needs
+
+reply-requires : tie.Need-reply-requires
+reply-requires c κs = search needs
+
+same-length : tie.Need-same-length
+same-length c = search needs
+
+returns : tie.Need-returns
+returns c = replied-as _ _ _ _ _ _ _ (c .before .before .before .before .before .position-bytes .ensures) (c .before .before .reply .ensures .0) (c .before .before .reply .ensures .1)
+
+pub read-position-spec : {M : Type 1} → statement M
+read-position-spec =
+    tie.close
+    (tie.spec position-bytes-requires slice-aggregate-reply reply-requires same-length returns)

@@ -1,0 +1,28 @@
+-- `work::write` meets its contract.
+-- Assumes nothing.
+use native.Mathlib.Omega.{arith}
+use Rattle.image.proofs.HeaderLaws.{sound}
+use Rattle.stream.proofs.WorkLaws.{write-less, write-went}
+use borrow.Author.Needs.{needs}
+use Rattle.stream.proofs.work.write.Statement.{statement}
+use Rattle.stream.proofs.work.write.Tie as tie
+
+write-blocks-requires : tie.Need-write-blocks-requires
+write-blocks-requires c κs = let g = sound _ _ (c .before .before .before .pre .0) in omega arith
+
+write-ending-requires : tie.Need-write-ending-requires
+write-ending-requires c κs = let g = sound _ _ (c .before .before .before .before .before .before .pre .0) in omega arith
+
+end-moved-requires : tie.Need-end-moved-requires
+end-moved-requires c κs = let g = sound _ _ (c .before .before .before .before .before .before .before .pre .0) in let l = write-less _ (c .before .before .before .before .before .before .before .args .h) (c .before .before .before .before .before .before .before .args .state) _ _ _ _ (c .before .before .before .write-blocks .ensures) in omega arith
+
+same-length : tie.Need-same-length
+same-length c = search needs
+
+returns : tie.Need-returns
+returns c = search write-went
+
+pub write-spec : {M : Type 1} → statement M
+write-spec =
+    tie.close
+    (tie.spec write-blocks-requires write-ending-requires end-moved-requires same-length returns)

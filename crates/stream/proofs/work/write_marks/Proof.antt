@@ -1,0 +1,33 @@
+-- `work::write_marks` meets its contract.
+-- Assumes nothing.
+use native.Mathlib.Omega.{arith}
+use Rattle.image.proofs.HeaderLaws.{sound}
+use Rattle.stream.proofs.WorkLaws.{mark-less, mark-went}
+use borrow.Author.Needs.{needs}
+use Rattle.stream.proofs.work.write_marks.Statement.{statement}
+use Rattle.stream.proofs.work.write_marks.Tie as tie
+
+write-filemarks-requires : tie.Need-write-filemarks-requires
+write-filemarks-requires c κs = let g = sound _ _ (c .before .before .before .pre .0) in omega arith
+
+write-ending-requires : tie.Need-write-ending-requires
+write-ending-requires c κs = let g = sound _ _ (c .before .before .before .before .before .before .pre .0) in omega arith
+
+end-moved-requires : tie.Need-end-moved-requires
+end-moved-requires c κs = let g = sound _ _ (c .before .before .before .before .before .before .before .pre .0) in let l = mark-less _ (c .before .before .before .before .before .before .before .args .h) (c .before .before .before .before .before .before .before .args .state) _ (c .before .before .before .before .before .before .before .args .buf .now) _ _ (c .before .before .before .write-filemarks .ensures) in omega arith
+
+same-length : tie.Need-same-length
+same-length c = search needs
+
+returns : tie.Need-returns
+returns c = search mark-went
+
+pub write-marks-spec : {M : Type 1} → statement M
+write-marks-spec =
+    tie.close
+    (tie.spec
+    write-filemarks-requires
+    write-ending-requires
+    end-moved-requires
+    same-length
+    returns)

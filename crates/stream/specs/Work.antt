@@ -1,0 +1,150 @@
+-- The work of each command, once nothing before it ended the packet.
+-- Assumes nothing.
+use Prim.Native.Nat.{ℕ, _*_, _-_, min}
+use mathlib.Core.Bool.{Bool, true, false, _&&_}
+use mathlib.Core.List.{List}
+use lib.ListN.{length, getD, take}
+use Rattle.numbers.specs.Choice.{if_then_else_, _≡ᵇ_, _<ᵇ_, _≤ᵇ_}
+use Rattle.numbers.specs.Counts.{countAt}
+use Rattle.numbers.specs.Member.{isIn}
+use Rattle.numbers.specs.Over.{over}
+use Rattle.image.specs.declared.header.Header.{Header}
+use Rattle.opcodes.specs.declared.Command.{Command}
+use Rattle.opcodes.specs.declared.Command.the-variants.{Unknown, TestUnitReady, Rewind, RequestSense, Read, Write, WriteFilemarks, Space, Inquiry, ModeSelect, ModeSense, LoadUnload, Locate, ReadPosition}
+use Rattle.transfer.specs.declared.Moved.{Moved}
+use Rattle.transfer.specs.declared.Stop.{Stop}
+use Rattle.transfer.specs.declared.Stop.the-variants.{Full, AtFilemark, AtBadBlock, AtEnd, AtBeginning}
+use Rattle.transfer.specs.Reading.{Reading, readFrom}
+use Rattle.transfer.specs.Writing.{Writing, writeFrom, markFrom}
+use Rattle.transfer.specs.Spacing.{blocksOn, blocksBack, marksOn, marksBack}
+use Rattle.stream.specs.declared.requests.Request.{Request}
+use Rattle.stream.specs.declared.state.Ending.{Ending}
+use Rattle.stream.specs.declared.state.Ending.the-variants.{Good, Check}
+use Rattle.stream.specs.declared.state.Outcome.{Outcome}
+use Rattle.stream.specs.declared.state.State.{State}
+use Rattle.stream.specs.Answers.{Step, done, ends}
+use Rattle.stream.specs.Replies.{senseBytes, inquiryBytes, modeBytes, positionBytes, positionLength, pastWarning}
+use Rattle.stream.specs.Requests.{spaceCode, overBlocks, toEndOfData, devicePage, fullList, isBack, magnitude, loadBit}
+use Rattle.stream.specs.Senses.{filemarkDetected, unreadableBlock, endOfData, volumeOverflow, earlyWarning, beginningOfTape, beyondData, wrongList}
+use Rattle.stream.specs.States.{speeds, atPlace, withSpeed}
+
+-- ---- 08h READ
+
+-- "Filemark: P + 1, stop, key 0, filemark, 00/01. Unreadable: P + 1, stop, 3/11/00. P = U: stop, 8/00/05, no EOM. A stop is valid with information N minus
+-- blocks copied."; SPACE's "End of data 8/00/05; beginning key 0, EOM, 00/04"
+unfoldable pub endingOf : Stop → ℕ → Ending
+endingOf Full left = Good
+endingOf AtFilemark left = Check (filemarkDetected left)
+endingOf AtBadBlock left = Check (unreadableBlock left)
+endingOf AtEnd left = Check (endOfData left)
+endingOf AtBeginning left = Check (beginningOfTape left)
+
+-- blocks and bytes of those asked for that a run moved
+abbrev pub moves : State → ℕ → ℕ → Moved → Ending → Outcome
+moves st asked size moved ending = ends (atPlace st (moved .place)) ending (asked - moved .left) ((asked - moved .left) * size)
+
+unfoldable pub readEnds : State → ℕ → ℕ → List ℕ → Reading → Step
+readEnds st asked size s r = done (moves st asked size (r .moved) (endingOf (r .moved .stop) (r .moved .left))) s (r .buf)
+
+unfoldable pub readWork : List ℕ → Header → State → ℕ → List ℕ → Step
+readWork s h st asked buf =
+    readEnds st asked (h .size) s (readFrom s (h .size) (h .kinds) (h .blocks) (h .recorded) asked 0 (st .position) buf)
+
+-- ---- 0Ah WRITE, 10h WRITE FILEMARK
+
+-- "At P = C: stop, key D, EOM, 00/02, valid, information the rest. .. If all N >= 1 are stored and P > C - W: CHECK CONDITION, key 0, EOM, 00/02, valid,
+-- information 0."
+unfoldable pub writeEnding : Header → ℕ → Moved → Ending
+writeEnding h asked moved =
+    if 1 ≤ᵇ moved .left then Check (volumeOverflow (moved .left)) else
+    if (1 ≤ᵇ asked) && pastWarning h (moved .place) then Check earlyWarning else
+    Good
+
+unfoldable pub writeEnds : Header → State → ℕ → ℕ → List ℕ → Writing → Step
+writeEnds h st asked size buf w = done (moves st asked size (w .moved) (writeEnding h asked (w .moved))) (w .image) buf
+
+unfoldable pub writeWork : List ℕ → Header → State → ℕ → List ℕ → Step
+writeWork s h st asked buf =
+    writeEnds h st asked (h .size) buf (writeFrom (h .size) (h .kinds) (h .blocks) (h .capacity) buf asked 0 (st .position) s)
+
+-- "N (bytes 2-4) filemarks by WRITE's rules": no bytes are taken from the buffer
+unfoldable pub markWork : List ℕ → Header → State → ℕ → List ℕ → Step
+markWork s h st asked buf = writeEnds h st asked 0 buf (markFrom (h .kinds) (h .capacity) asked (st .position) s)
+
+-- ---- 11h SPACE
+
+unfoldable pub spaceRun : List ℕ → Header → ℕ → ℕ → ℕ → Moved
+spaceRun s h p code count =
+    if code ≡ᵇ overBlocks then
+    (if isBack count then blocksBack s (h .kinds) p (magnitude count) else
+    blocksOn s (h .kinds) (h .recorded) (magnitude count) p)
+    else
+    (if isBack count then marksBack s (h .kinds) p (magnitude count) else
+    marksOn s (h .kinds) (h .recorded - p) (magnitude count) p)
+
+abbrev pub spaceEnds : State → Moved → Outcome
+spaceEnds st moved = ends (atPlace st (moved .place)) (endingOf (moved .stop) (moved .left)) 0 0
+
+-- "Code 3: P = U."
+unfoldable pub spaceWork : List ℕ → Header → State → ℕ → ℕ → Outcome
+spaceWork s h st code count =
+    if code ≡ᵇ toEndOfData then ends (atPlace st (h .recorded)) Good 0 0 else
+    spaceEnds st (spaceRun s h (st .position) code count)
+
+-- ---- 03h, 12h, 1Ah, 34h: the first of some bytes
+
+unfoldable pub firstOf : List ℕ → ℕ → List ℕ
+firstOf bytes asked = take (min asked (length bytes)) bytes
+
+unfoldable pub replyEnds : List ℕ → ℕ → State → Outcome
+replyEnds bytes asked st = ends st Good 0 (min asked (length bytes))
+
+abbrev pub replyWork : List ℕ → ℕ → State → List ℕ → List ℕ → Step
+replyWork bytes asked st s buf = done (replyEnds bytes asked st) s (over buf 0 (firstOf bytes asked))
+
+-- ---- 15h MODE SELECT
+
+-- "Length 32: page bytes 2Ah 12h and speed 0, 62, 125, 250 or 500"; the page starts at byte 12 of the list, its speed stands in its bytes 14-15
+abbrev pub listSpeed : List ℕ → ℕ
+listSpeed list = countAt list 26 2
+
+unfoldable pub goodList : List ℕ → Bool
+goodList list = (getD list 12 0 ≡ᵇ devicePage) && (getD list 13 0 ≡ᵇ 0x12) && isIn (listSpeed list) speeds
+
+unfoldable pub selectWork : State → ℕ → List ℕ → Outcome
+selectWork st asked list =
+    if asked ≡ᵇ fullList then
+    (if goodList list then ends (withSpeed st (listSpeed list)) Good 0 asked else
+    ends st (Check wrongList) 0 0)
+    else ends st Good 0 asked
+
+-- ---- 1Bh LOAD/UNLOAD, 2Bh LOCATE
+
+-- "P = 0; loaded as the bit says."
+unfoldable pub loadWork : State → Bool → Outcome
+loadWork st load =
+    ends (record { position = 0; loaded = load; attention = st .attention; speed = st .speed; sense = st .sense }) Good 0 0
+
+-- "Above U: P = U, 8/00/05, not valid. Else P = target."
+unfoldable pub locateWork : Header → State → ℕ → Outcome
+locateWork h st target =
+    if h .recorded <ᵇ target then ends (atPlace st (h .recorded)) (Check beyondData) 0 0 else
+    ends (atPlace st target) Good 0 0
+
+-- ---- by command
+
+unfoldable pub workOf : Command → List ℕ → Header → State → Request → List ℕ → Step
+workOf Unknown s h st q buf = done (ends st Good 0 0) s buf
+workOf TestUnitReady s h st q buf = done (ends st Good 0 0) s buf
+workOf Rewind s h st q buf = done (ends (atPlace st 0) Good 0 0) s buf
+workOf RequestSense s h st q buf = replyWork (senseBytes (st .sense)) (q .length) st s buf
+workOf Read s h st q buf = readWork s h st (q .count) buf
+workOf Write s h st q buf = writeWork s h st (q .count) buf
+workOf WriteFilemarks s h st q buf = markWork s h st (q .count) buf
+workOf Space s h st q buf = done (spaceWork s h st (spaceCode q) (q .count)) s buf
+workOf Inquiry s h st q buf = replyWork inquiryBytes (q .length) st s buf
+workOf ModeSelect s h st q buf = done (selectWork st (q .length) buf) s buf
+workOf ModeSense s h st q buf = replyWork (modeBytes h st q) (q .length) st s buf
+workOf LoadUnload s h st q buf = done (loadWork st (loadBit q)) s buf
+workOf Locate s h st q buf = done (locateWork h st (q .target)) s buf
+workOf ReadPosition s h st q buf = replyWork (positionBytes h st) positionLength st s buf

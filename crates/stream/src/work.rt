@@ -1,0 +1,295 @@
+// The work of each command, once nothing before it ended the packet.
+ghost use mathlib.Core.Path.{_≡_};
+ghost use Prim.Native.Nat.{_*_, _^_, _<_, _≤_, min};
+ghost use lib.ListN.{length};
+ghost use Rattle.numbers.specs.Over.{over};
+ghost use Rattle.image.specs.Header.{headerOf};
+ghost use Rattle.image.specs.declared.header.Judged.the-variants.{Good};
+ghost use Rattle.stream.specs.Answers.{done, ends};
+ghost use Rattle.stream.specs.Checks.{neededBy};
+ghost use Rattle.stream.specs.Replies.{senseBytes, inquiryBytes, modeLength, modeBytes, positionBytes};
+ghost use Rattle.stream.specs.States.{atPlace};
+ghost use Rattle.stream.specs.Work.{endingOf, moves, readWork, writeEnding, writeWork, markWork, spaceRun, spaceWork, firstOf, replyEnds, goodList, selectWork, loadWork, locateWork, workOf};
+use crate::answers::end;
+use crate::answers::stand_at;
+use crate::checks::is_speed;
+use crate::checks::least;
+use crate::checks::transfer_bytes;
+use crate::replies::INQUIRY;
+use crate::replies::mode_header;
+use crate::replies::mode_whole;
+use crate::replies::position_bytes;
+use crate::replies::sense_bytes;
+use crate::requests::Request;
+use crate::requests::is_back;
+use crate::requests::magnitude_of;
+use crate::senses::beginning_of_tape;
+use crate::senses::beyond_data;
+use crate::senses::early_warning;
+use crate::senses::end_of_data;
+use crate::senses::filemark_detected;
+use crate::senses::unreadable_block;
+use crate::senses::volume_overflow;
+use crate::senses::wrong_list;
+use crate::state::Ending;
+use crate::state::Outcome;
+use crate::state::State;
+use image::header::Header;
+use numbers::copying::copy_block;
+use numbers::counts::count2;
+use opcodes::Command;
+use transfer::Moved;
+use transfer::Stop;
+use transfer::reading::read_blocks;
+use transfer::spacing::blocks_back;
+use transfer::spacing::blocks_on;
+use transfer::spacing::marks_back;
+use transfer::spacing::marks_on;
+use transfer::writing::write_blocks;
+use transfer::writing::write_filemarks;
+
+fn ending_of(stop: Stop, left: usize) -> Ending
+    ensures { λ r. ⌜ r ≡ endingOf stop left ⌝ }
+{
+    match stop {
+        Stop::Full => Ending::Good,
+        Stop::AtFilemark => Ending::Check(filemark_detected(left)),
+        Stop::AtBadBlock => Ending::Check(unreadable_block(left)),
+        Stop::AtEnd => Ending::Check(end_of_data(left)),
+        Stop::AtBeginning => Ending::Check(beginning_of_tape(left)),
+    }
+}
+
+// Blocks and bytes of those asked for that a run moved.
+fn end_moved(state: State, asked: usize, size: usize, moved: Moved, ending: Ending) -> Outcome
+    requires { ⌜ ((asked < 2 ^ 24) × (size ≤ 1024)) × (moved .left ≤ asked) ⌝ }
+    ensures { λ r. ⌜ r ≡ moves state asked size moved ending ⌝ }
+{
+    let blocks = asked - moved.left;
+    end(
+        stand_at(state, moved.place),
+        ending,
+        blocks,
+        transfer_bytes(blocks, size),
+    )
+}
+
+fn read(image: &[u8], h: Header, state: State, asked: usize, buf: &mut [u8]) -> Outcome
+    requires { ⌜ (headerOf (now image) ≡ Good h) × ((state .position ≤ h .recorded) × ((asked < 2 ^ 24) × (asked * h .size ≤ length (now buf)))) ⌝ }
+    ensures { λ r. ⌜ done r (now (image .entry)) (now (buf .exit)) ≡ readWork (now (image .entry)) h state asked (now (buf .entry)) ⌝ }
+{
+    let p = state.position;
+    let size = h.size;
+    let moved = read_blocks(image, size, h.kinds, h.blocks, h.recorded, buf, asked, p);
+    let stop = moved.stop;
+    let ending = ending_of(stop, moved.left);
+    end_moved(state, asked, size, moved, ending)
+}
+
+fn write_ending(h: Header, asked: usize, moved: Moved) -> Ending
+    requires { ⌜ h .warning ≤ h .capacity ⌝ }
+    ensures { λ r. ⌜ r ≡ writeEnding h asked moved ⌝ }
+{
+    let left = moved.left;
+    let short = 1 <= left;
+    if short {
+        return Ending::Check(volume_overflow(left));
+    }
+    let warned = (1 <= asked) & (h.capacity - h.warning < moved.place);
+    if warned {
+        return Ending::Check(early_warning());
+    }
+    Ending::Good
+}
+
+fn write(image: &mut [u8], h: Header, state: State, asked: usize, buf: &[u8]) -> Outcome
+    requires { ⌜ (headerOf (now image) ≡ Good h) × ((state .position ≤ h .recorded) × ((asked < 2 ^ 24) × (asked * h .size ≤ length (now buf)))) ⌝ }
+    ensures { λ r. ⌜ done r (now (image .exit)) (now (buf .entry)) ≡ writeWork (now (image .entry)) h state asked (now (buf .entry)) ⌝ }
+{
+    let p = state.position;
+    let size = h.size;
+    let moved = write_blocks(image, size, h.kinds, h.blocks, h.capacity, buf, asked, p);
+    let ending = write_ending(h, asked, moved);
+    end_moved(state, asked, size, moved, ending)
+}
+
+// No bytes are taken from the buffer, which is only named here for the contract.
+fn write_marks(image: &mut [u8], h: Header, state: State, asked: usize, buf: &[u8]) -> Outcome
+    requires { ⌜ (headerOf (now image) ≡ Good h) × ((state .position ≤ h .recorded) × (asked < 2 ^ 24)) ⌝ }
+    ensures { λ r. ⌜ done r (now (image .exit)) (now (buf .entry)) ≡ markWork (now (image .entry)) h state asked (now (buf .entry)) ⌝ }
+{
+    let p = state.position;
+    let moved = write_filemarks(image, h.kinds, h.capacity, asked, p);
+    let ending = write_ending(h, asked, moved);
+    end_moved(state, asked, 0, moved, ending)
+}
+
+const OVER_BLOCKS: u8 = 0;
+
+const TO_END_OF_DATA: u8 = 3;
+
+fn space_run(image: &[u8], h: Header, p: usize, code: u8, count: usize) -> Moved
+    requires { ⌜ (headerOf (now image) ≡ Good h) × ((p ≤ h .recorded) × (count < 2 ^ 24)) ⌝ }
+    ensures { λ r. ⌜ r ≡ spaceRun (now (image .entry)) h p code count ⌝ }
+{
+    let kinds = h.kinds;
+    let end = h.recorded;
+    let n = magnitude_of(count);
+    let back = is_back(count);
+    let over_blocks = code == OVER_BLOCKS;
+    if over_blocks {
+        if back {
+            return blocks_back(image, kinds, n, p);
+        }
+        return blocks_on(image, kinds, end, n, p);
+    }
+    if back {
+        return marks_back(image, kinds, n, p);
+    }
+    marks_on(image, kinds, end, n, p)
+}
+
+fn space(image: &[u8], h: Header, state: State, code: u8, count: usize) -> Outcome
+    requires { ⌜ (headerOf (now image) ≡ Good h) × ((state .position ≤ h .recorded) × (count < 2 ^ 24)) ⌝ }
+    ensures { λ r. ⌜ r ≡ spaceWork (now (image .entry)) h state code count ⌝ }
+{
+    let to_end = code == TO_END_OF_DATA;
+    if to_end {
+        return end(stand_at(state, h.recorded), Ending::Good, 0, 0);
+    }
+    let p = state.position;
+    let moved = space_run(image, h, p, code, count);
+    let stop = moved.stop;
+    let ending = ending_of(stop, moved.left);
+    end(stand_at(state, moved.place), ending, 0, 0)
+}
+
+// The first of some bytes go to the start of the host's buffer.
+fn reply(bytes: &[u8], asked: usize, state: State, buf: &mut [u8]) -> Outcome
+    requires { ⌜ min asked (length (now bytes)) ≤ length (now buf) ⌝ }
+    ensures { λ r. ⌜ (r ≡ replyEnds (now (bytes .entry)) asked state) × (now (buf .exit) ≡ over (now (buf .entry)) 0 (firstOf (now (bytes .entry)) asked)) ⌝ }
+{
+    let n = least(asked, bytes.len());
+    copy_block(buf, &bytes[..n]);
+    end(state, Ending::Good, 0, n)
+}
+
+fn request_sense(state: State, asked: usize, buf: &mut [u8]) -> Outcome
+    requires { ⌜ (state .sense .key ≤ 15) × (min asked 20 ≤ length (now buf)) ⌝ }
+    ensures { λ r. ⌜ (r ≡ replyEnds (senseBytes (state .sense)) asked state) × (now (buf .exit) ≡ over (now (buf .entry)) 0 (firstOf (senseBytes (state .sense)) asked)) ⌝ }
+{
+    let sense = state.sense;
+    let bytes = sense_bytes(sense);
+    reply(&bytes, asked, state, buf)
+}
+
+fn inquiry(state: State, asked: usize, buf: &mut [u8]) -> Outcome
+    requires { ⌜ min asked 36 ≤ length (now buf) ⌝ }
+    ensures { λ r. ⌜ (r ≡ replyEnds inquiryBytes asked state) × (now (buf .exit) ≡ over (now (buf .entry)) 0 (firstOf inquiryBytes asked)) ⌝ }
+{
+    reply(&INQUIRY, asked, state, buf)
+}
+
+fn mode_sense(h: Header, state: State, q: Request, buf: &mut [u8]) -> Outcome
+    requires { ⌜ min (q .length) (modeLength q) ≤ length (now buf) ⌝ }
+    ensures { λ r. ⌜ (r ≡ replyEnds (modeBytes h state q) (q .length) state) × (now (buf .exit) ≡ over (now (buf .entry)) 0 (firstOf (modeBytes h state q) (q .length))) ⌝ }
+{
+    let asked = q.length as usize;
+    let whole = q.page % 64 == DEVICE_PAGE;
+    if whole {
+        let bytes = mode_whole(h, state);
+        return reply(&bytes, asked, state, buf);
+    }
+    let bytes = mode_header(h, 11);
+    reply(&bytes, asked, state, buf)
+}
+
+fn read_position(h: Header, state: State, buf: &mut [u8]) -> Outcome
+    requires { ⌜ (h .warning ≤ h .capacity) × (20 ≤ length (now buf)) ⌝ }
+    ensures { λ r. ⌜ (r ≡ replyEnds (positionBytes h state) 20 state) × (now (buf .exit) ≡ over (now (buf .entry)) 0 (firstOf (positionBytes h state) 20)) ⌝ }
+{
+    let bytes = position_bytes(h, state);
+    reply(&bytes, 20, state, buf)
+}
+
+const DEVICE_PAGE: u8 = 0x2A;
+
+const PAGE_LENGTH: u8 = 0x12;
+
+const FULL_LIST: usize = 32;
+
+fn is_good_list(list: &[u8]) -> bool
+    requires { ⌜ 32 ≤ length (now list) ⌝ }
+    ensures { λ r. ⌜ r ≡ goodList (now (list .entry)) ⌝ }
+{
+    let known = is_speed(count2(list, 26) as u16);
+    (list[12] == DEVICE_PAGE) & (list[13] == PAGE_LENGTH) & known
+}
+
+fn mode_select(state: State, asked: usize, list: &[u8]) -> Outcome
+    requires { ⌜ asked ≤ length (now list) ⌝ }
+    ensures { λ r. ⌜ r ≡ selectWork state asked (now (list .entry)) ⌝ }
+{
+    let full = asked == FULL_LIST;
+    if full {
+        let good = is_good_list(list);
+        if good {
+            let mut next = state;
+            let speed = count2(list, 26) as u16;
+            next.speed = speed;
+            return end(next, Ending::Good, 0, asked);
+        }
+        return end(state, Ending::Check(wrong_list()), 0, 0);
+    }
+    end(state, Ending::Good, 0, asked)
+}
+
+fn load_unload(state: State, load: bool) -> Outcome
+    ensures { λ r. ⌜ r ≡ loadWork state load ⌝ }
+{
+    let mut next = stand_at(state, 0);
+    next.loaded = load;
+    end(next, Ending::Good, 0, 0)
+}
+
+fn locate(h: Header, state: State, target: usize) -> Outcome
+    ensures { λ r. ⌜ r ≡ locateWork h state target ⌝ }
+{
+    let beyond = h.recorded < target;
+    if beyond {
+        return end(
+            stand_at(state, h.recorded),
+            Ending::Check(beyond_data()),
+            0,
+            0,
+        );
+    }
+    end(stand_at(state, target), Ending::Good, 0, 0)
+}
+
+pub fn work(image: &mut [u8], h: Header, state: State, q: Request, buf: &mut [u8]) -> Outcome
+    requires { ⌜ ((headerOf (now image) ≡ Good h) × ((state .position ≤ h .recorded) × (state .sense .key ≤ 15))) × ((q .count < 2 ^ 24) × (neededBy (q .command) h q ≤ length (now buf))) ⌝ }
+    ensures { λ r. ⌜ done r (now (image .exit)) (now (buf .exit)) ≡ workOf (q .command) (now (image .entry)) h state q (now (buf .entry)) ⌝ }
+{
+    let command = q.command;
+    let count = q.count;
+    let asked = q.length as usize;
+    let code = q.flags % 8;
+    let load = q.length % 2 == 1;
+    match command {
+        Command::Unknown => end(state, Ending::Good, 0, 0),
+        Command::TestUnitReady => end(state, Ending::Good, 0, 0),
+        Command::Rewind => end(stand_at(state, 0), Ending::Good, 0, 0),
+        Command::RequestSense => request_sense(state, asked, buf),
+        Command::Read => read(image, h, state, count, buf),
+        Command::Write => write(image, h, state, count, buf),
+        Command::WriteFilemarks => write_marks(image, h, state, count, buf),
+        Command::Space => space(image, h, state, code, count),
+        Command::Inquiry => inquiry(state, asked, buf),
+        Command::ModeSelect => mode_select(state, asked, buf),
+        Command::ModeSense => mode_sense(h, state, q, buf),
+        Command::LoadUnload => load_unload(state, load),
+        Command::Locate => locate(h, state, q.target),
+        Command::ReadPosition => read_position(h, state, buf),
+    }
+}

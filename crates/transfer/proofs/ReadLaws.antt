@@ -1,0 +1,183 @@
+-- READ, one element at a time: what is left to do gives what the whole gives.
+-- Assumes nothing.
+use mathlib.Core.Path.{_≡_, refl, sym, ap, _∙_}
+use mathlib.Core.Bool.{Bool, true, false}
+use mathlib.Core.List.{List}
+use Prim.Native.Nat.{ℕ, zero, suc, _+_, _*_, _-_, _<_, _≤_}
+use native.Mathlib.Nat.{not-suc-le-zero, mul-le-mul-right}
+use native.Mathlib.Numerals.{sub-one}
+use native.Mathlib.Omega.{arith}
+use borrow.Author.Tests.{le-leb, lt-leb, leb-true, leb-false}
+use lib.Dec.{leb}
+use borrow.Rule.Slice.PartMut.{midOf, putMid}
+use lib.ListN.{length, getD, length-take}
+use Rattle.numbers.specs.Choice.{if_then_else_}
+use Rattle.numbers.specs.Over.{over, part}
+use Rattle.numbers.proofs.OverLaws.{part-length, part-same, over-length, over-below, over-above, over-part, copied-over}
+use Rattle.image.specs.declared.elements.Kind.{Kind}
+use Rattle.image.specs.declared.elements.Kind.the-variants.{Data, Filemark, Unreadable}
+use Rattle.image.specs.Elements.{kindAt, blockAt}
+use Rattle.transfer.specs.declared.Stop.the-variants.{Full, AtFilemark, AtBadBlock, AtEnd}
+use Rattle.transfer.specs.Moving.{halts}
+use Rattle.transfer.specs.Reading.{Reading, reads, byKind, readFrom}
+use Rattle.transfer.proofs.EndLaws.{Ended, ended-full, ended-short, ended-on, filemark-short, bad-short, end-short}
+
+-- the bytes of one block fewer
+pub one-fewer : (n size : ℕ) → 0 < n → n * size ≡ (n - 1) * size + size
+one-fewer zero size h = absurd (not-suc-le-zero h)
+one-fewer (suc n) size h = rw sub-one (omega arith)
+
+module _ (s : List ℕ) (size kinds blocks end off p : ℕ) (buf : List ℕ) (X : Reading) where
+  pub read-done : (left : ℕ) → readFrom s size kinds blocks end left off p buf ≡ X → left ≤ 0 → reads buf (halts p 0 Full) ≡ X
+  unfolding readFrom
+  read-done zero i h = i
+  read-done (suc left) i h = absurd (not-suc-le-zero h)
+
+  pub read-end : (left : ℕ) → readFrom s size kinds blocks end left off p buf ≡ X → 0 < left → end ≤ p → reads buf (halts p left AtEnd) ≡ X
+  unfolding readFrom
+  read-end zero i h e = absurd (not-suc-le-zero h)
+  read-end (suc left) i h e = rw (le-leb end p e) at i
+
+  pub read-mark : (left : ℕ) (kind : Kind) → readFrom s size kinds blocks end left off p buf ≡ X → 0 < left → p < end
+      → kind ≡ kindAt s kinds p → kind ≡ Filemark → reads buf (halts (p + 1) left AtFilemark) ≡ X
+  unfolding readFrom
+  read-mark zero kind i h l e k = absurd (not-suc-le-zero h)
+  read-mark (suc left) kind i h l e k = rw (lt-leb end p l, ← e, k) at i
+
+  pub read-bad : (left : ℕ) (kind : Kind) → readFrom s size kinds blocks end left off p buf ≡ X → 0 < left → p < end
+      → kind ≡ kindAt s kinds p → kind ≡ Unreadable → reads buf (halts (p + 1) left AtBadBlock) ≡ X
+  unfolding readFrom
+  read-bad zero kind i h l e k = absurd (not-suc-le-zero h)
+  read-bad (suc left) kind i h l e k = rw (lt-leb end p l, ← e, k) at i
+
+  -- a block was copied from the image's bytes at a to the rest of the buffer, which came back as ys
+  pub read-next : (left a : ℕ) (kind : Kind) (ys : List ℕ) → readFrom s size kinds blocks end left off p buf ≡ X → 0 < left → p < end
+      → kind ≡ kindAt s kinds p → kind ≡ Data → a ≡ p * size
+      → ys ≡ over (midOf off (length buf - off) buf) 0 (midOf (blocks + a) (blocks + a + size - (blocks + a)) s)
+      → readFrom s size kinds blocks end (left - 1) (off + size) (p + 1) (putMid off (length buf - off) buf ys) ≡ X
+  unfolding readFrom blockAt
+  read-next zero a kind ys i h l e k q r = absurd (not-suc-le-zero h)
+  read-next (suc left) a kind ys i h l e k q r =
+      rw (copied-over off (blocks + a) size buf s ys r, q, sub-one) (rw (lt-leb end p l, ← e, k) at i)
+
+-- ---- the whole run
+
+module _ (s : List ℕ) (size kinds blocks end : ℕ) where
+  -- how READ of n blocks goes, step by step, to its outcome
+  pub data ReadRun : ℕ → ℕ → ℕ → List ℕ → Reading → Type 0 where
+    full : (off p : ℕ) (buf : List ℕ) → ReadRun 0 off p buf (reads buf (halts p 0 Full))
+    at-end : (n off p : ℕ) (buf : List ℕ) → end ≤ p → ReadRun (suc n) off p buf (reads buf (halts p (suc n) AtEnd))
+    at-mark : (n off p : ℕ) (buf : List ℕ) → p < end → kindAt s kinds p ≡ Filemark → ReadRun (suc n) off p buf (reads buf (halts (p + 1) (suc n) AtFilemark))
+    at-bad : (n off p : ℕ) (buf : List ℕ) → p < end → kindAt s kinds p ≡ Unreadable → ReadRun (suc n) off p buf (reads buf (halts (p + 1) (suc n) AtBadBlock))
+    copies : (n off p : ℕ) (buf : List ℕ) (X : Reading) → p < end → kindAt s kinds p ≡ Data
+        → ReadRun n (off + size) (p + 1) (over buf off (blockAt s size blocks p)) X → ReadRun (suc n) off p buf X
+
+  one-read : (t : Bool) (kind : Kind) (n off p : ℕ) (buf : List ℕ) (X : Reading) → leb end p ≡ t → kindAt s kinds p ≡ kind
+      → ReadRun n (off + size) (p + 1) (over buf off (blockAt s size blocks p)) X
+      → ReadRun (suc n) off p buf (if t then reads buf (halts p (suc n) AtEnd) else byKind kind X (reads buf (halts (p + 1) (suc n) AtFilemark)) (reads buf (halts (p + 1) (suc n) AtBadBlock)))
+  one-read true kind n off p buf X h e r = at-end n off p buf (leb-true end p h)
+  one-read false Data n off p buf X h e r = copies n off p buf X (leb-false end p h) e r
+  one-read false Filemark n off p buf X h e r = at-mark n off p buf (leb-false end p h) e
+  one-read false Unreadable n off p buf X h e r = at-bad n off p buf (leb-false end p h) e
+
+  pub read-run : (n off p : ℕ) (buf : List ℕ) → ReadRun n off p buf (readFrom s size kinds blocks end n off p buf)
+  unfolding readFrom
+  read-run zero off p buf = full off p buf
+  read-run (suc n) off p buf =
+      one-read (leb end p) (kindAt s kinds p) n off p buf _ refl refl (read-run n (off + size) (p + 1) (over buf off (blockAt s size blocks p)))
+
+  run-ended : {n off p : ℕ} {buf : List ℕ} {X : Reading} → ReadRun n off p buf X → Ended n (X .moved)
+  run-ended (full off p buf) = ended-full p
+  run-ended (at-end n off p buf h) = ended-short (suc n) p AtEnd (omega arith) end-short
+  run-ended (at-mark n off p buf h e) = ended-short (suc n) (p + 1) AtFilemark (omega arith) filemark-short
+  run-ended (at-bad n off p buf h e) = ended-short (suc n) (p + 1) AtBadBlock (omega arith) bad-short
+  run-ended (copies n off p buf X h e r) = ended-on n (suc n) (X .moved) (omega arith) (run-ended r)
+
+  run-place : {n off p : ℕ} {buf : List ℕ} {X : Reading} → ReadRun n off p buf X → p ≤ end → X .moved .place ≤ end
+  run-place (full off p buf) l = l
+  run-place (at-end n off p buf h) l = l
+  run-place (at-mark n off p buf h e) l = omega arith
+  run-place (at-bad n off p buf h e) l = omega arith
+  run-place (copies n off p buf X h e r) l = run-place r (omega arith)
+
+  at-most : (p : ℕ) → length (blockAt s size blocks p) ≤ size
+  unfolding blockAt
+  at-most p = rw length-take (omega arith)
+
+  -- the n blocks' part of the buffer, from off on, is all that changes
+  record Kept (n off : ℕ) (buf new : List ℕ) : Type 0 where
+    size-kept : length new ≡ length buf
+    before-kept : (i : ℕ) → i < off → getD new i 0 ≡ getD buf i 0
+    beyond-kept : (i : ℕ) → off + n * size ≤ i → getD new i 0 ≡ getD buf i 0
+
+  run-kept : {n off p : ℕ} {buf : List ℕ} {X : Reading} → ReadRun n off p buf X → off + n * size ≤ length buf → Kept n off buf (X .buf)
+  run-kept (full off p buf) l = record { size-kept = refl; before-kept = λ i h. refl; beyond-kept = λ i h. refl }
+  run-kept (at-end n off p buf h) l = record { size-kept = refl; before-kept = λ i h. refl; beyond-kept = λ i h. refl }
+  run-kept (at-mark n off p buf h e) l = record { size-kept = refl; before-kept = λ i h. refl; beyond-kept = λ i h. refl }
+  run-kept (at-bad n off p buf h e) l = record { size-kept = refl; before-kept = λ i h. refl; beyond-kept = λ i h. refl }
+  run-kept (copies n off p buf X h e r) l =
+      let m = at-most p in
+      let o = over-length buf (blockAt s size blocks p) off (omega arith) in
+      let k = run-kept r (omega arith) in
+      record {
+        size-kept = k .size-kept ∙ o;
+        before-kept = λ i h. k .before-kept i (omega arith) ∙ over-below buf (blockAt s size blocks p) off i (omega arith) h;
+        beyond-kept = λ i h. k .beyond-kept i (omega arith) ∙ over-above buf (blockAt s size blocks p) off i (omega arith) (omega arith);
+      }
+
+  -- the j-th of the blocks that were moved
+  run-block : {n off p : ℕ} {buf : List ℕ} {X : Reading} → ReadRun n off p buf X → off + n * size ≤ length buf → blocks + end * size ≤ length s
+      → (j : ℕ) → j + X .moved .left < n → part (X .buf) (off + j * size) size ≡ blockAt s size blocks (p + j)
+  unfolding blockAt
+  run-block (full off p buf) l b j h = absurd (omega arith)
+  run-block (at-end n off p buf g) l b j h = absurd (omega arith)
+  run-block (at-mark n off p buf g e) l b j h = absurd (omega arith)
+  run-block (at-bad n off p buf g e) l b j h = absurd (omega arith)
+  run-block (copies n off p buf X g e r) l b zero h =
+      let m = mul-le-mul-right size g in
+      let w = part-length s (blocks + p * size) size (omega arith) in
+      let o = over-length buf (part s (blocks + p * size) size) off (omega arith) in
+      let k = run-kept r (omega arith) in
+      let q = k .size-kept in
+      let x : off + 0 * size ≡ off = omega arith in
+      let y : p + 0 ≡ p = omega arith in
+      rw (x, y)
+      (part-same (X .buf) (over buf off (part s (blocks + p * size) size)) off size (omega arith) q (λ i z. k .before-kept (off + i) (omega arith))
+      ∙ ap (λ (i : ℕ). part (over buf off (part s (blocks + p * size) size)) off i) (sym w)
+      ∙ over-part buf (part s (blocks + p * size) size) off (omega arith))
+  run-block (copies n off p buf X g e r) l b (suc j) h =
+      let m = mul-le-mul-right size g in
+      let w = at-most p in
+      let o = over-length buf (blockAt s size blocks p) off (omega arith) in
+      let x : off + suc j * size ≡ off + size + j * size = omega arith in
+      let y : p + suc j ≡ p + 1 + j = omega arith in
+      rw (x, y) (run-block r (omega arith) b j (omega arith))
+
+  module _ (n off p : ℕ) (buf : List ℕ) where
+    pub read-ended : Ended n (readFrom s size kinds blocks end n off p buf .moved)
+    read-ended = run-ended (read-run n off p buf)
+
+    pub read-left : readFrom s size kinds blocks end n off p buf .moved .left ≤ n
+    read-left = read-ended .less
+
+    pub read-full : readFrom s size kinds blocks end n off p buf .moved .stop ≡ Full → readFrom s size kinds blocks end n off p buf .moved .left ≡ 0
+    read-full = read-ended .full
+
+    pub read-place : p ≤ end → readFrom s size kinds blocks end n off p buf .moved .place ≤ end
+    read-place = run-place (read-run n off p buf)
+
+    pub read-length : off + n * size ≤ length buf → length (readFrom s size kinds blocks end n off p buf .buf) ≡ length buf
+    read-length l = run-kept (read-run n off p buf) l .size-kept
+
+    pub read-before : off + n * size ≤ length buf → (i : ℕ) → i < off → getD (readFrom s size kinds blocks end n off p buf .buf) i 0 ≡ getD buf i 0
+    read-before l = run-kept (read-run n off p buf) l .before-kept
+
+    pub read-beyond : off + n * size ≤ length buf → (i : ℕ) → off + n * size ≤ i
+        → getD (readFrom s size kinds blocks end n off p buf .buf) i 0 ≡ getD buf i 0
+    read-beyond l = run-kept (read-run n off p buf) l .beyond-kept
+
+    -- each block moved has come whole
+    pub read-block : off + n * size ≤ length buf → blocks + end * size ≤ length s
+        → (j : ℕ) → j + readFrom s size kinds blocks end n off p buf .moved .left < n
+        → part (readFrom s size kinds blocks end n off p buf .buf) (off + j * size) size ≡ blockAt s size blocks (p + j)
+    read-block = run-block (read-run n off p buf)

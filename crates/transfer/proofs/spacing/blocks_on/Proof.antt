@@ -1,0 +1,64 @@
+-- `spacing::blocks_on` meets its contract. The invariant: what is left to do gives what the whole gives.
+-- Assumes nothing.
+use mathlib.Core.Path.{_≡_, refl}
+use Prim.Native.Nat.{_≤_}
+use native.Mathlib.Omega.{arith}
+use Rattle.transfer.specs.Spacing.{blocksOn}
+use Rattle.transfer.proofs.SpaceLaws.{ways, on-next}
+use Rattle.transfer.proofs.spacing.blocks_on.Statement.{statement}
+use Rattle.transfer.proofs.spacing.blocks_on.Tie as tie
+
+abbrev Inv-loop : tie.InvT-loop
+Inv-loop image kinds end n p left₀ at₀ left at = (blocksOn image kinds end left at ≡ blocksOn image kinds end n p) × (at ≤ end)
+
+abbrev μ-loop : tie.MeasureT-loop
+μ-loop image kinds end n p left₀ at₀ left at = left
+
+loop-holds : tie.Need-loop-holds Inv-loop μ-loop
+loop-holds c = (refl, omega arith)
+
+returns : tie.Need-returns Inv-loop μ-loop
+returns c = search ways
+
+kind-at-requires : tie.Need-kind-at-requires Inv-loop μ-loop
+kind-at-requires c κs = omega arith
+
+is-filemark-requires : tie.Need-is-filemark-requires Inv-loop μ-loop
+is-filemark-requires c κs = tt
+
+add-at : tie.Need-add-at Inv-loop μ-loop
+add-at c = omega arith
+
+returns-2 : tie.Need-returns-2 Inv-loop μ-loop
+returns-2 c = search ways
+
+sub-left : tie.Need-sub-left Inv-loop μ-loop
+sub-left c = omega arith
+
+loop-less : tie.Need-loop-less Inv-loop μ-loop
+loop-less c = omega arith
+
+loop-again : tie.Need-loop-again Inv-loop μ-loop
+loop-again c =
+    let e = c .before .before in
+    (on-next _ _ _ _ _ _ _ _ (e .before .before .before .loop .inv .0) (search) (search) (e .kind-at .ensures) (c .before .is-filemark .ensures) (c .if2 .left), omega arith)
+
+returns-3 : tie.Need-returns-3 Inv-loop μ-loop
+returns-3 c = search ways
+
+pub blocks-on-spec : {M : Type 1} → statement M
+blocks-on-spec =
+    tie.close
+    (tie.spec
+    Inv-loop
+    μ-loop
+    loop-holds
+    returns
+    kind-at-requires
+    is-filemark-requires
+    add-at
+    returns-2
+    sub-left
+    loop-less
+    loop-again
+    returns-3)

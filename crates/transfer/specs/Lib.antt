@@ -1,0 +1,4 @@
+pub mod Moving
+pub mod Reading
+pub mod Spacing
+pub mod Writing

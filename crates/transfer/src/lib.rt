@@ -1,0 +1,19 @@
+// Runs over the tape, one loop each: plain numbers in, no record and no sense.
+pub mod reading; // reading.rt: READ
+pub mod spacing; // spacing.rt: SPACE over blocks and filemarks, both ways
+pub mod writing; // writing.rt: WRITE and WRITE FILEMARK
+
+// Why a run ended.
+pub enum Stop {
+    Full, // all that was asked for is done
+    AtFilemark,
+    AtBadBlock,
+    AtEnd,
+    AtBeginning,
+}
+
+pub struct Moved {
+    pub place: usize, // where the tape stands
+    pub left: usize, // how many of those asked for are not done
+    pub stop: Stop,
+}

@@ -1,0 +1,68 @@
+// 01, 08h READ.
+ghost use mathlib.Core.Path.{_≡_};
+ghost use Prim.Native.Nat.{_+_, _*_, _≤_};
+ghost use lib.ListN.{length};
+ghost use Rattle.transfer.specs.Reading.{reads, readFrom};
+use crate::Moved;
+use crate::Stop;
+use image::elements::Kind;
+use image::elements::kind_at;
+use image::header::span;
+use numbers::copying::copy_block;
+
+// Lends the buffer from the current offset on to the copier of one block; what stands beyond the transfer stays.
+pub fn read_blocks(
+    image: &[u8],
+    size: usize,
+    kinds: usize,
+    blocks: usize,
+    end: usize,
+    buf: &mut [u8],
+    n: usize,
+    p: usize,
+) -> Moved
+    requires { ⌜ ((size ≤ 1024) × (end ≤ 65535)) × ((kinds + end ≤ length (now image)) × ((blocks + end * size ≤ length (now image)) × ((p ≤ end) × (n * size ≤ length (now buf))))) ⌝ }
+    ensures { λ r. ⌜ reads (now (buf .exit)) r ≡ readFrom (now (image .entry)) size kinds blocks end n 0 p (now (buf .entry)) ⌝ }
+{
+    let mut left = n;
+    let mut at = p;
+    let mut off: usize = 0;
+    while left > 0 {
+        if at >= end {
+            return Moved {
+                place: at,
+                left,
+                stop: Stop::AtEnd,
+            };
+        }
+        match kind_at(image, kinds, at) {
+            Kind::Data => {
+                let from = blocks + span(at, size);
+                let to = from + size;
+                copy_block(&mut buf[off..], &image[from..to]);
+                off = off + size;
+                at = at + 1;
+                left = left - 1;
+            }
+            Kind::Filemark => {
+                return Moved {
+                    place: at + 1,
+                    left,
+                    stop: Stop::AtFilemark,
+                };
+            }
+            Kind::Unreadable => {
+                return Moved {
+                    place: at + 1,
+                    left,
+                    stop: Stop::AtBadBlock,
+                };
+            }
+        }
+    }
+    Moved {
+        place: at,
+        left: 0,
+        stop: Stop::Full,
+    }
+}

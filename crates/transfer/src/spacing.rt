@@ -1,0 +1,143 @@
+// 01, 11h SPACE.
+ghost use mathlib.Core.Path.{_≡_};
+ghost use Prim.Native.Nat.{_+_, _-_, _≤_};
+ghost use lib.ListN.{length};
+ghost use Rattle.transfer.specs.Spacing.{isFilemark, marksLeft, blocksOn, blocksBack, marksOn, marksBack};
+use crate::Moved;
+use crate::Stop;
+use image::elements::Kind;
+use image::elements::kind_at;
+
+fn is_filemark(kind: Kind) -> bool
+    ensures { λ r. ⌜ r ≡ isFilemark kind ⌝ }
+{
+    match kind {
+        Kind::Data => false,
+        Kind::Filemark => true,
+        Kind::Unreadable => false,
+    }
+}
+
+fn marks_left(kind: Kind, left: usize) -> usize
+    requires { ⌜ 1 ≤ left ⌝ }
+    ensures { λ r. ⌜ r ≡ marksLeft kind left ⌝ }
+{
+    let mark = is_filemark(kind);
+    if mark {
+        return left - 1;
+    }
+    left
+}
+
+pub fn blocks_on(image: &[u8], kinds: usize, end: usize, n: usize, p: usize) -> Moved
+    requires { ⌜ (kinds + end ≤ length (now image)) × (p ≤ end) ⌝ }
+    ensures { λ r. ⌜ r ≡ blocksOn (now (image .entry)) kinds end n p ⌝ }
+{
+    let mut left = n;
+    let mut at = p;
+    while left > 0 {
+        if at >= end {
+            return Moved {
+                place: at,
+                left,
+                stop: Stop::AtEnd,
+            };
+        }
+        let mark = is_filemark(kind_at(image, kinds, at));
+        at = at + 1;
+        if mark {
+            return Moved {
+                place: at,
+                left,
+                stop: Stop::AtFilemark,
+            };
+        }
+        left = left - 1;
+    }
+    Moved {
+        place: at,
+        left: 0,
+        stop: Stop::Full,
+    }
+}
+
+pub fn blocks_back(image: &[u8], kinds: usize, n: usize, p: usize) -> Moved
+    requires { ⌜ kinds + p ≤ length (now image) ⌝ }
+    ensures { λ r. ⌜ r ≡ blocksBack (now (image .entry)) kinds p n ⌝ }
+{
+    let mut left = n;
+    let mut at = p;
+    while left > 0 {
+        if at == 0 {
+            return Moved {
+                place: 0,
+                left,
+                stop: Stop::AtBeginning,
+            };
+        }
+        let back = at - 1;
+        let mark = is_filemark(kind_at(image, kinds, back));
+        if mark {
+            return Moved {
+                place: back,
+                left,
+                stop: Stop::AtFilemark,
+            };
+        }
+        at = back;
+        left = left - 1;
+    }
+    Moved {
+        place: at,
+        left: 0,
+        stop: Stop::Full,
+    }
+}
+
+pub fn marks_on(image: &[u8], kinds: usize, end: usize, n: usize, p: usize) -> Moved
+    requires { ⌜ (kinds + end ≤ length (now image)) × (p ≤ end) ⌝ }
+    ensures { λ r. ⌜ r ≡ marksOn (now (image .entry)) kinds (end - p) n p ⌝ }
+{
+    let mut left = n;
+    let mut at = p;
+    while left > 0 {
+        if at >= end {
+            return Moved {
+                place: at,
+                left,
+                stop: Stop::AtEnd,
+            };
+        }
+        left = marks_left(kind_at(image, kinds, at), left);
+        at = at + 1;
+    }
+    Moved {
+        place: at,
+        left: 0,
+        stop: Stop::Full,
+    }
+}
+
+pub fn marks_back(image: &[u8], kinds: usize, n: usize, p: usize) -> Moved
+    requires { ⌜ kinds + p ≤ length (now image) ⌝ }
+    ensures { λ r. ⌜ r ≡ marksBack (now (image .entry)) kinds p n ⌝ }
+{
+    let mut left = n;
+    let mut at = p;
+    while left > 0 {
+        if at == 0 {
+            return Moved {
+                place: 0,
+                left,
+                stop: Stop::AtBeginning,
+            };
+        }
+        at = at - 1;
+        left = marks_left(kind_at(image, kinds, at), left);
+    }
+    Moved {
+        place: at,
+        left: 0,
+        stop: Stop::Full,
+    }
+}

@@ -1,0 +1,70 @@
+// 01, 0Ah WRITE and 10h WRITE FILEMARK.
+ghost use mathlib.Core.Path.{_≡_};
+ghost use Prim.Native.Nat.{_+_, _*_, _≤_};
+ghost use lib.ListN.{length};
+ghost use Rattle.transfer.specs.Writing.{writes, writeFrom, markFrom};
+use crate::Moved;
+use crate::Stop;
+use image::elements::store_block;
+use image::elements::store_filemark;
+
+pub fn write_blocks(
+    image: &mut [u8],
+    size: usize,
+    kinds: usize,
+    blocks: usize,
+    end: usize,
+    src: &[u8],
+    n: usize,
+    p: usize,
+) -> Moved
+    requires { ⌜ ((size ≤ 1024) × (end ≤ 65535)) × ((32 ≤ kinds) × ((kinds + end ≤ blocks) × ((blocks + end * size ≤ length (now image)) × ((p ≤ end) × (n * size ≤ length (now src)))))) ⌝ }
+    ensures { λ r. ⌜ writes (now (image .exit)) r ≡ writeFrom size kinds blocks end (now (src .entry)) n 0 p (now (image .entry)) ⌝ }
+{
+    let mut left = n;
+    let mut at = p;
+    let mut off: usize = 0;
+    while left > 0 {
+        if at >= end {
+            return Moved {
+                place: at,
+                left,
+                stop: Stop::AtEnd,
+            };
+        }
+        store_block(image, size, kinds, blocks, at, src, off);
+        off = off + size;
+        at = at + 1;
+        left = left - 1;
+    }
+    Moved {
+        place: at,
+        left: 0,
+        stop: Stop::Full,
+    }
+}
+
+pub fn write_filemarks(image: &mut [u8], kinds: usize, end: usize, n: usize, p: usize) -> Moved
+    requires { ⌜ (end ≤ 65535) × ((32 ≤ kinds) × ((kinds + end ≤ length (now image)) × (p ≤ end))) ⌝ }
+    ensures { λ r. ⌜ writes (now (image .exit)) r ≡ markFrom kinds end n p (now (image .entry)) ⌝ }
+{
+    let mut left = n;
+    let mut at = p;
+    while left > 0 {
+        if at >= end {
+            return Moved {
+                place: at,
+                left,
+                stop: Stop::AtEnd,
+            };
+        }
+        store_filemark(image, kinds, at);
+        at = at + 1;
+        left = left - 1;
+    }
+    Moved {
+        place: at,
+        left: 0,
+        stop: Stop::Full,
+    }
+}
