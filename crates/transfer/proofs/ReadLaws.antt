@@ -17,6 +17,7 @@ use Rattle.numbers.proofs.OverLaws.{part-length, part-same, over-length, over-b
 use Rattle.image.specs.declared.elements.Kind.{Kind}
 use Rattle.image.specs.declared.elements.Kind.the-variants.{Data, Filemark, Unreadable}
 use Rattle.image.specs.Elements.{kindAt, blockAt}
+use Rattle.transfer.specs.declared.Moved.{Moved}
 use Rattle.transfer.specs.declared.Stop.the-variants.{Full, AtFilemark, AtBadBlock, AtEnd}
 use Rattle.transfer.specs.Moving.{halts}
 use Rattle.transfer.specs.Reading.{Reading, reads, byKind, readFrom}
@@ -28,27 +29,27 @@ one-fewer zero size h = absurd (not-suc-le-zero h)
 one-fewer (suc n) size h = rw sub-one (omega arith)
 
 module _ (s : List ℕ) (size kinds blocks end off p : ℕ) (buf : List ℕ) (X : Reading) where
-  pub read-done : (left : ℕ) → readFrom s size kinds blocks end left off p buf ≡ X → left ≤ 0 → reads buf (halts p 0 Full) ≡ X
+  pub read-done : (left : ℕ) (m : Moved) → readFrom s size kinds blocks end left off p buf ≡ X → left ≤ 0 → m ≡ halts p 0 Full → reads buf m ≡ X
   unfolding readFrom
-  read-done zero i h = i
-  read-done (suc left) i h = absurd (not-suc-le-zero h)
+  read-done zero m i h q = rw q i
+  read-done (suc left) m i h q = absurd (not-suc-le-zero h)
 
-  pub read-end : (left : ℕ) → readFrom s size kinds blocks end left off p buf ≡ X → 0 < left → end ≤ p → reads buf (halts p left AtEnd) ≡ X
+  pub read-end : (left : ℕ) (m : Moved) → readFrom s size kinds blocks end left off p buf ≡ X → 0 < left → end ≤ p → m ≡ halts p left AtEnd → reads buf m ≡ X
   unfolding readFrom
-  read-end zero i h e = absurd (not-suc-le-zero h)
-  read-end (suc left) i h e = rw (le-leb end p e) at i
+  read-end zero m i h e q = absurd (not-suc-le-zero h)
+  read-end (suc left) m i h e q = rw q (rw (le-leb end p e) at i)
 
-  pub read-mark : (left : ℕ) (kind : Kind) → readFrom s size kinds blocks end left off p buf ≡ X → 0 < left → p < end
-      → kind ≡ kindAt s kinds p → kind ≡ Filemark → reads buf (halts (p + 1) left AtFilemark) ≡ X
+  pub read-mark : (left : ℕ) (m : Moved) (kind : Kind) → readFrom s size kinds blocks end left off p buf ≡ X → 0 < left → p < end
+      → kind ≡ kindAt s kinds p → kind ≡ Filemark → m ≡ halts (p + 1) left AtFilemark → reads buf m ≡ X
   unfolding readFrom
-  read-mark zero kind i h l e k = absurd (not-suc-le-zero h)
-  read-mark (suc left) kind i h l e k = rw (lt-leb end p l, ← e, k) at i
+  read-mark zero m kind i h l e k q = absurd (not-suc-le-zero h)
+  read-mark (suc left) m kind i h l e k q = rw q (rw (lt-leb end p l, ← e, k) at i)
 
-  pub read-bad : (left : ℕ) (kind : Kind) → readFrom s size kinds blocks end left off p buf ≡ X → 0 < left → p < end
-      → kind ≡ kindAt s kinds p → kind ≡ Unreadable → reads buf (halts (p + 1) left AtBadBlock) ≡ X
+  pub read-bad : (left : ℕ) (m : Moved) (kind : Kind) → readFrom s size kinds blocks end left off p buf ≡ X → 0 < left → p < end
+      → kind ≡ kindAt s kinds p → kind ≡ Unreadable → m ≡ halts (p + 1) left AtBadBlock → reads buf m ≡ X
   unfolding readFrom
-  read-bad zero kind i h l e k = absurd (not-suc-le-zero h)
-  read-bad (suc left) kind i h l e k = rw (lt-leb end p l, ← e, k) at i
+  read-bad zero m kind i h l e k q = absurd (not-suc-le-zero h)
+  read-bad (suc left) m kind i h l e k q = rw q (rw (lt-leb end p l, ← e, k) at i)
 
   -- a block was copied from the image's bytes at a to the rest of the buffer, which came back as ys
   pub read-next : (left a : ℕ) (kind : Kind) (ys : List ℕ) → readFrom s size kinds blocks end left off p buf ≡ X → 0 < left → p < end

@@ -1,4 +1,7 @@
 // Runs over the tape, one loop each: plain numbers in, no record and no sense.
+ghost use mathlib.Core.Path.{_≡_};
+ghost use Rattle.transfer.specs.Moving.{halts};
+
 pub mod reading; // reading.rt: READ
 pub mod spacing; // spacing.rt: SPACE over blocks and filemarks, both ways
 pub mod writing; // writing.rt: WRITE and WRITE FILEMARK
@@ -16,4 +19,10 @@ pub struct Moved {
     pub place: usize, // where the tape stands
     pub left: usize, // how many of those asked for are not done
     pub stop: Stop,
+}
+
+fn halt(place: usize, left: usize, stop: Stop) -> Moved
+    ensures { λ r. ⌜ r ≡ halts place left stop ⌝ }
+{
+    Moved { place, left, stop }
 }

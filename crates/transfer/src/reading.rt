@@ -5,6 +5,7 @@ ghost use lib.ListN.{length};
 ghost use Rattle.transfer.specs.Reading.{reads, readFrom};
 use crate::Moved;
 use crate::Stop;
+use crate::halt;
 use image::elements::Kind;
 use image::elements::kind_at;
 use image::header::span;
@@ -29,11 +30,7 @@ pub fn read_blocks(
     let mut off: usize = 0;
     while left > 0 {
         if at >= end {
-            return Moved {
-                place: at,
-                left,
-                stop: Stop::AtEnd,
-            };
+            return halt(at, left, Stop::AtEnd);
         }
         match kind_at(image, kinds, at) {
             Kind::Data => {
@@ -45,24 +42,12 @@ pub fn read_blocks(
                 left = left - 1;
             }
             Kind::Filemark => {
-                return Moved {
-                    place: at + 1,
-                    left,
-                    stop: Stop::AtFilemark,
-                };
+                return halt(at + 1, left, Stop::AtFilemark);
             }
             Kind::Unreadable => {
-                return Moved {
-                    place: at + 1,
-                    left,
-                    stop: Stop::AtBadBlock,
-                };
+                return halt(at + 1, left, Stop::AtBadBlock);
             }
         }
     }
-    Moved {
-        place: at,
-        left: 0,
-        stop: Stop::Full,
-    }
+    halt(at, 0, Stop::Full)
 }

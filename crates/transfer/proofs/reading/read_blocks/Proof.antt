@@ -22,6 +22,9 @@ abbrev μ-loop : tie.MeasureT-loop
 loop-holds : tie.Need-loop-holds Inv-loop μ-loop
 loop-holds c = (refl, omega arith)
 
+halt-requires : tie.Need-halt-requires Inv-loop μ-loop
+halt-requires c κs = tt
+
 same-length : tie.Need-same-length Inv-loop μ-loop
 same-length c = omega arith
 
@@ -98,30 +101,39 @@ loop-again c =
 enum-told-2 : tie.Need-enum-told-2 Inv-loop μ-loop
 enum-told-2 c = omega arith
 
-add-t26 : tie.Need-add-t26 Inv-loop μ-loop
-add-t26 c = omega arith
+add-halt : tie.Need-add-halt Inv-loop μ-loop
+add-halt c = omega arith
+
+halt-requires-2 : tie.Need-halt-requires-2 Inv-loop μ-loop
+halt-requires-2 c κs = tt
 
 same-length-2 : tie.Need-same-length-2 Inv-loop μ-loop
 same-length-2 c = omega arith
 
 returns-2 : tie.Need-returns-2 Inv-loop μ-loop
 returns-2 c =
-    let e = c .before .before in
-    read-mark _ _ _ _ _ _ _ _ _ _ _ (e .before .before .before .loop .inv .0) (search) (search) (e .kind-at .ensures) (c .enum-told2 .given .1)
+    let e = c .before .before .before in
+    read-mark _ _ _ _ _ _ _ _ _ _ _ _ (e .before .before .before .loop .inv .0) (search) (search) (e .kind-at .ensures) (c .before .enum-told2 .given .1) (c .halt2 .ensures)
 
 enum-told-3 : tie.Need-enum-told-3 Inv-loop μ-loop
 enum-told-3 c = omega arith
 
-add-t28 : tie.Need-add-t28 Inv-loop μ-loop
-add-t28 c = omega arith
+add-halt-2 : tie.Need-add-halt-2 Inv-loop μ-loop
+add-halt-2 c = omega arith
+
+halt-requires-3 : tie.Need-halt-requires-3 Inv-loop μ-loop
+halt-requires-3 c κs = tt
 
 same-length-3 : tie.Need-same-length-3 Inv-loop μ-loop
 same-length-3 c = omega arith
 
 returns-3 : tie.Need-returns-3 Inv-loop μ-loop
 returns-3 c =
-    let e = c .before .before in
-    read-bad _ _ _ _ _ _ _ _ _ _ _ (e .before .before .before .loop .inv .0) (search) (search) (e .kind-at .ensures) (c .enum-told3 .given .1)
+    let e = c .before .before .before in
+    read-bad _ _ _ _ _ _ _ _ _ _ _ _ (e .before .before .before .loop .inv .0) (search) (search) (e .kind-at .ensures) (c .before .enum-told3 .given .1) (c .halt3 .ensures)
+
+halt-requires-4 : tie.Need-halt-requires-4 Inv-loop μ-loop
+halt-requires-4 c κs = tt
 
 same-length-4 : tie.Need-same-length-4 Inv-loop μ-loop
 same-length-4 c = omega arith
@@ -136,6 +148,7 @@ read-blocks-spec =
     Inv-loop
     μ-loop
     loop-holds
+    halt-requires
     same-length
     returns
     kind-at-requires
@@ -156,12 +169,15 @@ read-blocks-spec =
     loop-less
     loop-again
     enum-told-2
-    add-t26
+    add-halt
+    halt-requires-2
     same-length-2
     returns-2
     enum-told-3
-    add-t28
+    add-halt-2
+    halt-requires-3
     same-length-3
     returns-3
+    halt-requires-4
     same-length-4
     returns-4)
