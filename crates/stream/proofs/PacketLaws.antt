@@ -13,19 +13,19 @@ use Rattle.image.specs.declared.header.Header.{Header}
 use Rattle.image.specs.declared.header.Judged.{Judged}
 use Rattle.image.specs.declared.header.Judged.the-variants.{Good, Broken}
 use Rattle.image.specs.Header.{headerOf}
-use Rattle.stream.specs.declared.requests.Request.{Request}
-use Rattle.stream.specs.declared.state.Outcome.{Outcome}
-use Rattle.stream.specs.declared.state.Sense.{Sense}
-use Rattle.stream.specs.declared.state.State.{State}
-use Rattle.stream.specs.declared.state.Verdict.{Verdict}
-use Rattle.stream.specs.declared.state.Verdict.the-variants.{Refuses, Ends, Works}
-use Rattle.stream.specs.Answers.{done, refused, endsBefore, shortBuffer}
-use Rattle.stream.specs.Checks.{isPending, conditionsOf, isUnknown, badFieldOf, badListLengthOf, neededBy, verdictOf}
+use Rattle.stream_parts.specs.declared.requests.Request.{Request}
+use Rattle.stream_parts.specs.declared.state.Outcome.{Outcome}
+use Rattle.stream_parts.specs.declared.state.Sense.{Sense}
+use Rattle.stream_parts.specs.declared.state.State.{State}
+use Rattle.stream_parts.specs.declared.state.Verdict.{Verdict}
+use Rattle.stream_parts.specs.declared.state.Verdict.the-variants.{Refuses, Ends, Works}
+use Rattle.stream_parts.specs.Answers.{done, refused, endsBefore, shortBuffer}
+use Rattle.stream_parts.specs.Checks.{isPending, conditionsOf, isUnknown, badFieldOf, badListLengthOf, neededBy, verdictOf}
 use Rattle.stream.specs.Packet.{carriedOut, decided, judged, packetStep}
-use Rattle.stream.specs.Replies.{isProtected}
-use Rattle.stream.specs.Requests.{requestOf}
-use Rattle.stream.specs.Senses.{unitAttention, invalidOpcode, invalidField, wrongListLength, notLoaded, writeProtected}
-use Rattle.stream.specs.States.{keepsRecordRules}
+use Rattle.stream_parts.specs.Replies.{isProtected}
+use Rattle.stream_parts.specs.Requests.{requestOf}
+use Rattle.stream_parts.specs.Senses.{unitAttention, invalidOpcode, invalidField, wrongListLength, notLoaded, writeProtected}
+use Rattle.stream_parts.specs.States.{keepsRecordRules}
 use Rattle.stream.specs.Work.{workOf}
 
 -- ---- a packet that comes to its work has the room that it needs

@@ -14,16 +14,16 @@ use Rattle.transfer.specs.Reading.{Reading, reads, readFrom}
 use Rattle.transfer.specs.Writing.{Writing, writes, writeFrom, markFrom}
 use Rattle.transfer.proofs.ReadLaws.{read-left}
 use Rattle.transfer.proofs.WriteLaws.{write-left, mark-left}
-use Rattle.stream.specs.declared.requests.Request.{Request}
-use Rattle.stream.specs.declared.state.Ending.{Ending}
-use Rattle.stream.specs.declared.state.Ending.the-variants.{Good}
-use Rattle.stream.specs.declared.state.Outcome.{Outcome}
-use Rattle.stream.specs.declared.state.State.{State}
-use Rattle.stream.specs.Answers.{Step, done, ends}
-use Rattle.stream.specs.Checks.{neededBy}
-use Rattle.stream.specs.Replies.{senseBytes, inquiryBytes, hasPage, modeHeader, modePage, modeBytes, positionBytes}
-use Rattle.stream.specs.Requests.{spaceCode, loadBit}
-use Rattle.stream.specs.States.{atPlace}
+use Rattle.stream_parts.specs.declared.requests.Request.{Request}
+use Rattle.stream_parts.specs.declared.state.Ending.{Ending}
+use Rattle.stream_parts.specs.declared.state.Ending.the-variants.{Good}
+use Rattle.stream_parts.specs.declared.state.Outcome.{Outcome}
+use Rattle.stream_parts.specs.declared.state.State.{State}
+use Rattle.stream_parts.specs.Answers.{Step, done, ends}
+use Rattle.stream_parts.specs.Checks.{neededBy}
+use Rattle.stream_parts.specs.Replies.{senseBytes, inquiryBytes, hasPage, modeHeader, modePage, modeBytes, positionBytes}
+use Rattle.stream_parts.specs.Requests.{spaceCode, loadBit}
+use Rattle.stream_parts.specs.States.{atPlace}
 use Rattle.stream.specs.Work.{endingOf, moves, readEnds, readWork, writeEnding, writeEnds, writeWork, markWork, spaceWork, firstOf, replyEnds, selectWork, loadWork, locateWork, workOf}
 
 -- ---- READ, WRITE, WRITE FILEMARK

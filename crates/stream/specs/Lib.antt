@@ -1,8 +1,2 @@
-pub mod States
-pub mod Senses
-pub mod Requests
-pub mod Answers
-pub mod Replies
-pub mod Checks
 pub mod Work
 pub mod Packet

@@ -9,14 +9,14 @@ use Rattle.image.specs.declared.header.Header.{Header}
 use Rattle.image.specs.declared.header.Judged.{Judged}
 use Rattle.image.specs.declared.header.Judged.the-variants.{Good, Broken}
 use Rattle.image.specs.Header.{headerOf, brokenImage}
-use Rattle.stream.specs.declared.requests.Request.{Request}
-use Rattle.stream.specs.declared.state.State.{State}
-use Rattle.stream.specs.declared.state.Verdict.{Verdict}
-use Rattle.stream.specs.declared.state.Verdict.the-variants.{Refuses, Ends, Works}
-use Rattle.stream.specs.Answers.{Step, done, refused, endsBefore, notTwelveBytes, brokenRecord}
-use Rattle.stream.specs.Checks.{verdictOf}
-use Rattle.stream.specs.Requests.{requestOf}
-use Rattle.stream.specs.States.{keepsRecordRules}
+use Rattle.stream_parts.specs.declared.requests.Request.{Request}
+use Rattle.stream_parts.specs.declared.state.State.{State}
+use Rattle.stream_parts.specs.declared.state.Verdict.{Verdict}
+use Rattle.stream_parts.specs.declared.state.Verdict.the-variants.{Refuses, Ends, Works}
+use Rattle.stream_parts.specs.Answers.{Step, done, refused, endsBefore, notTwelveBytes, brokenRecord}
+use Rattle.stream_parts.specs.Checks.{verdictOf}
+use Rattle.stream_parts.specs.Requests.{requestOf}
+use Rattle.stream_parts.specs.States.{keepsRecordRules}
 use Rattle.stream.specs.Work.{workOf}
 
 abbrev pub packetLength : ℕ

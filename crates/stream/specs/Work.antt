@@ -17,16 +17,16 @@ use Rattle.transfer.specs.declared.Stop.the-variants.{Full, AtFilemark, AtBadBl
 use Rattle.transfer.specs.Reading.{Reading, readFrom}
 use Rattle.transfer.specs.Writing.{Writing, writeFrom, markFrom}
 use Rattle.transfer.specs.Spacing.{blocksOn, blocksBack, marksOn, marksBack}
-use Rattle.stream.specs.declared.requests.Request.{Request}
-use Rattle.stream.specs.declared.state.Ending.{Ending}
-use Rattle.stream.specs.declared.state.Ending.the-variants.{Good, Check}
-use Rattle.stream.specs.declared.state.Outcome.{Outcome}
-use Rattle.stream.specs.declared.state.State.{State}
-use Rattle.stream.specs.Answers.{Step, done, ends}
-use Rattle.stream.specs.Replies.{senseBytes, inquiryBytes, modeBytes, positionBytes, positionLength, pastWarning}
-use Rattle.stream.specs.Requests.{spaceCode, overBlocks, toEndOfData, devicePage, fullList, isBack, magnitude, loadBit}
-use Rattle.stream.specs.Senses.{filemarkDetected, unreadableBlock, endOfData, volumeOverflow, earlyWarning, beginningOfTape, beyondData, wrongList}
-use Rattle.stream.specs.States.{speeds, atPlace, withSpeed}
+use Rattle.stream_parts.specs.declared.requests.Request.{Request}
+use Rattle.stream_parts.specs.declared.state.Ending.{Ending}
+use Rattle.stream_parts.specs.declared.state.Ending.the-variants.{Good, Check}
+use Rattle.stream_parts.specs.declared.state.Outcome.{Outcome}
+use Rattle.stream_parts.specs.declared.state.State.{State}
+use Rattle.stream_parts.specs.Answers.{Step, done, ends}
+use Rattle.stream_parts.specs.Replies.{senseBytes, inquiryBytes, modeBytes, positionBytes, positionLength, pastWarning}
+use Rattle.stream_parts.specs.Requests.{spaceCode, overBlocks, toEndOfData, devicePage, fullList, isBack, magnitude, loadBit}
+use Rattle.stream_parts.specs.Senses.{filemarkDetected, unreadableBlock, endOfData, volumeOverflow, earlyWarning, beginningOfTape, beyondData, wrongList}
+use Rattle.stream_parts.specs.States.{speeds, atPlace, withSpeed}
 
 -- ---- 08h READ
 

@@ -1,34 +1,28 @@
 // The packet drive (stream device): every packet answered over a lent image and a lent buffer.
-pub mod answers; // answers.rt: refused, ended before the work, ended by the work
-pub mod checks; // checks.rt: what is judged before the work, in 01's order
-pub mod replies; // replies.rt: the bytes that 03h, 12h, 1Ah and 34h give
-pub mod requests; // requests.rt: the fields of one packet
-pub mod senses; // senses.rt: the sense of each ending
-pub mod state; // state.rt: the packet record and the answer
 pub mod work; // work.rt: one function a command
 
 ghost use mathlib.Core.Path.{_≡_};
 ghost use Prim.Native.Nat.{_^_, _<_, _≤_};
 ghost use Rattle.image.specs.Header.{headerOf};
 ghost use Rattle.image.specs.declared.header.Judged.the-variants.{Good};
-ghost use Rattle.stream.specs.Answers.{done};
+ghost use Rattle.stream_parts.specs.Answers.{done};
 ghost use Rattle.stream.specs.Packet.{decided, packetStep};
-ghost use Rattle.stream.specs.States.{freshState, changedState};
-use crate::answers::end_before;
-use crate::answers::refuse;
-use crate::checks::keeps_record_rules;
-use crate::checks::verdict;
-use crate::requests::Request;
-use crate::requests::request_of;
-use crate::senses::no_sense;
-use crate::state::Attention;
-use crate::state::Outcome;
-use crate::state::State;
-use crate::state::Verdict;
+ghost use Rattle.stream_parts.specs.States.{freshState, changedState};
 use crate::work::work;
 use image::header::Header;
 use image::header::Judged;
 use image::header::header_of;
+use stream_parts::answers::end_before;
+use stream_parts::answers::refuse;
+use stream_parts::checks::keeps_record_rules;
+use stream_parts::checks::verdict;
+use stream_parts::requests::Request;
+use stream_parts::requests::request_of;
+use stream_parts::senses::no_sense;
+use stream_parts::state::Attention;
+use stream_parts::state::Outcome;
+use stream_parts::state::State;
+use stream_parts::state::Verdict;
 
 const PACKET_LENGTH: usize = 12;
 

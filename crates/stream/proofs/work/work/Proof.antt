@@ -3,7 +3,7 @@
 use native.Mathlib.Omega.{arith}
 use Rattle.image.proofs.HeaderLaws.{sound}
 use Rattle.opcodes.specs.declared.Command.the-variants.{RequestSense, Read, Write, Inquiry, ModeSelect, ModeSense, ReadPosition}
-use Rattle.stream.specs.Checks.{neededBy}
+use Rattle.stream_parts.specs.Checks.{neededBy}
 use Rattle.stream.proofs.WorkLaws.{needed-as, was-unknown, was-tested, was-rewound, was-sensed, was-read, was-written, was-marked, was-spaced, was-asked, was-selected, was-shown, was-loaded, was-located, was-placed}
 use borrow.Author.Needs.{needs}
 use Rattle.stream.proofs.work.work.Statement.{statement}

@@ -1,0 +1,31 @@
+-- `checks::is_pending` meets its contract.
+-- Assumes nothing.
+use Rattle.stream_parts.specs.Checks.{isPending}
+use borrow.Author.Needs.{needs}
+use Rattle.stream_parts.proofs.checks.is_pending.Statement.{statement}
+use Rattle.stream_parts.proofs.checks.is_pending.Tie as tie
+
+enum-told : tie.Need-enum-told
+enum-told c = search needs
+
+enum-told-2 : tie.Need-enum-told-2
+enum-told-2 c = search needs
+
+enum-told-3 : tie.Need-enum-told-3
+enum-told-3 c = search needs
+
+returns : tie.Need-returns
+unfolding isPending
+returns c = simp (c .enum-told .given .1)
+
+returns-2 : tie.Need-returns-2
+unfolding isPending
+returns-2 c = simp (c .enum-told2 .given .1)
+
+returns-3 : tie.Need-returns-3
+unfolding isPending
+returns-3 c = simp (c .enum-told3 .given .1)
+
+pub is-pending-spec : {M : Type 1} → statement M
+is-pending-spec =
+    tie.close (tie.spec enum-told enum-told-2 enum-told-3 returns returns-2 returns-3)

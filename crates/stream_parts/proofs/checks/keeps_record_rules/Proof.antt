@@ -1,0 +1,16 @@
+-- `checks::keeps_record_rules` meets its contract.
+-- Assumes nothing.
+use Rattle.stream_parts.specs.States.{keepsRecordRules}
+use borrow.Author.Needs.{needs}
+use Rattle.stream_parts.proofs.checks.keeps_record_rules.Statement.{statement}
+use Rattle.stream_parts.proofs.checks.keeps_record_rules.Tie as tie
+
+is-speed-requires : tie.Need-is-speed-requires
+is-speed-requires c κs = search needs
+
+returns : tie.Need-returns
+unfolding keepsRecordRules
+returns c = simp (← c .before .before .before .is-speed .ensures)
+
+pub keeps-record-rules-spec : {M : Type 1} → statement M
+keeps-record-rules-spec = tie.close (tie.spec is-speed-requires returns)

@@ -1,0 +1,263 @@
+// What is judged before the work: "attention, opcode, fields, not ready, protection, 4".
+ghost use mathlib.Core.Path.{_≡_};
+ghost use Prim.Native.Nat.{_*_, _^_, _<_, _≤_, min};
+ghost use Rattle.numbers.specs.Member.{isIn};
+ghost use Rattle.stream_parts.specs.Checks.{conditionsOf, isPending, isUnknown, badFieldOf, badListLengthOf, neededBy, verdictOf};
+ghost use Rattle.stream_parts.specs.Replies.{isProtected, modeLength};
+ghost use Rattle.stream_parts.specs.States.{speeds, keepsRecordRules};
+use crate::replies::mode_length;
+use crate::requests::Request;
+use crate::senses::invalid_field;
+use crate::senses::invalid_opcode;
+use crate::senses::not_loaded;
+use crate::senses::unit_attention;
+use crate::senses::write_protected;
+use crate::senses::wrong_list_length;
+use crate::state::Attention;
+use crate::state::State;
+use crate::state::Verdict;
+use image::header::Header;
+use numbers::tables::is_in;
+use opcodes::Command;
+
+const OVER_BLOCKS: u8 = 0;
+
+const OVER_FILEMARKS: u8 = 1;
+
+const TO_END_OF_DATA: u8 = 3;
+
+const HEADER_ALONE: u8 = 0x00;
+
+const DEVICE_PAGE: u8 = 0x2A;
+
+const SHORT_LIST: u8 = 12;
+
+const FULL_LIST: u8 = 32;
+
+const SENSE_LENGTH: usize = 20;
+
+const INQUIRY_LENGTH: usize = 36;
+
+const POSITION_LENGTH: usize = 20;
+
+const HIGHEST_KEY: u8 = 15;
+
+const SHORT_BUFFER: u8 = 4;
+
+pub struct Conditions {
+    pub exempt: bool, // answered whatever attention is pending
+    pub mounted: bool, // needs a loaded cartridge
+    pub stores: bool, // stores on the cartridge
+}
+
+fn conditions_with(exempt: bool, mounted: bool, stores: bool) -> Conditions
+    ensures { λ r. ⌜ r ≡ record { exempt = exempt; mounted = mounted; stores = stores } ⌝ }
+{
+    Conditions {
+        exempt,
+        mounted,
+        stores,
+    }
+}
+
+fn conditions_of(command: Command) -> Conditions
+    ensures { λ r. ⌜ r ≡ conditionsOf command ⌝ }
+{
+    match command {
+        Command::Unknown => conditions_with(false, true, false),
+        Command::TestUnitReady => conditions_with(false, true, false),
+        Command::Rewind => conditions_with(false, true, false),
+        Command::RequestSense => conditions_with(true, false, false),
+        Command::Read => conditions_with(false, true, false),
+        Command::Write => conditions_with(false, true, true),
+        Command::WriteFilemarks => conditions_with(false, true, true),
+        Command::Space => conditions_with(false, true, false),
+        Command::Inquiry => conditions_with(true, false, false),
+        Command::ModeSelect => conditions_with(false, false, false),
+        Command::ModeSense => conditions_with(false, false, false),
+        Command::LoadUnload => conditions_with(false, false, false),
+        Command::Locate => conditions_with(false, true, false),
+        Command::ReadPosition => conditions_with(false, true, false),
+    }
+}
+
+fn is_pending(attention: Attention) -> bool
+    ensures { λ r. ⌜ r ≡ isPending attention ⌝ }
+{
+    match attention {
+        Attention::Nothing => false,
+        Attention::MediumChanged => true,
+        Attention::Reset => true,
+    }
+}
+
+fn is_unknown(command: Command) -> bool
+    ensures { λ r. ⌜ r ≡ isUnknown command ⌝ }
+{
+    match command {
+        Command::Unknown => true,
+        Command::TestUnitReady => false,
+        Command::Rewind => false,
+        Command::RequestSense => false,
+        Command::Read => false,
+        Command::Write => false,
+        Command::WriteFilemarks => false,
+        Command::Space => false,
+        Command::Inquiry => false,
+        Command::ModeSelect => false,
+        Command::ModeSense => false,
+        Command::LoadUnload => false,
+        Command::Locate => false,
+        Command::ReadPosition => false,
+    }
+}
+
+fn bad_field(q: Request) -> bool
+    ensures { λ r. ⌜ r ≡ badFieldOf (q .command) q ⌝ }
+{
+    let command = q.command;
+    let fixed = q.flags % 2 == 1;
+    let code = q.flags % 8;
+    let page = q.page % 64;
+    let load = q.length % 2 == 1;
+    let eot = q.length / 4 % 2 == 1;
+    let partition = q.flags / 2 % 2 == 1;
+    match command {
+        Command::Unknown => false,
+        Command::TestUnitReady => false,
+        Command::Rewind => false,
+        Command::RequestSense => false,
+        Command::Read => !fixed,
+        Command::Write => !fixed,
+        Command::WriteFilemarks => false,
+        Command::Space => !((code == OVER_BLOCKS)
+            | (code == OVER_FILEMARKS)
+            | (code == TO_END_OF_DATA)),
+        Command::Inquiry => false,
+        Command::ModeSelect => false,
+        Command::ModeSense => !((page == HEADER_ALONE) | (page == DEVICE_PAGE)),
+        Command::LoadUnload => load & eot,
+        Command::Locate => partition,
+        Command::ReadPosition => false,
+    }
+}
+
+fn bad_list_length(q: Request) -> bool
+    ensures { λ r. ⌜ r ≡ badListLengthOf (q .command) q ⌝ }
+{
+    let command = q.command;
+    let wrong = !((q.length == 0) | (q.length == SHORT_LIST) | (q.length == FULL_LIST));
+    match command {
+        Command::Unknown => false,
+        Command::TestUnitReady => false,
+        Command::Rewind => false,
+        Command::RequestSense => false,
+        Command::Read => false,
+        Command::Write => false,
+        Command::WriteFilemarks => false,
+        Command::Space => false,
+        Command::Inquiry => false,
+        Command::ModeSelect => wrong,
+        Command::ModeSense => false,
+        Command::LoadUnload => false,
+        Command::Locate => false,
+        Command::ReadPosition => false,
+    }
+}
+
+pub fn least(a: usize, b: usize) -> usize
+    ensures { λ r. ⌜ r ≡ min a b ⌝ }
+{
+    if a < b {
+        return a;
+    }
+    b
+}
+
+// N*B reaches 17,179,868,160: more than 32 bits, and no overflow.
+pub fn transfer_bytes(count: usize, size: usize) -> usize
+    requires { ⌜ (count < 2 ^ 24) × (size ≤ 1024) ⌝ }
+    ensures { λ r. ⌜ r ≡ count * size ⌝ }
+{
+    count * size
+}
+
+fn needed(h: Header, q: Request) -> usize
+    requires { ⌜ (q .count < 2 ^ 24) × (h .size ≤ 1024) ⌝ }
+    ensures { λ r. ⌜ r ≡ neededBy (q .command) h q ⌝ }
+{
+    let command = q.command;
+    let length = q.length as usize;
+    let mode = mode_length(q.page);
+    let span = transfer_bytes(q.count, h.size);
+    match command {
+        Command::Unknown => 0,
+        Command::TestUnitReady => 0,
+        Command::Rewind => 0,
+        Command::RequestSense => least(length, SENSE_LENGTH),
+        Command::Read => span,
+        Command::Write => span,
+        Command::WriteFilemarks => 0,
+        Command::Space => 0,
+        Command::Inquiry => least(length, INQUIRY_LENGTH),
+        Command::ModeSelect => length,
+        Command::ModeSense => least(length, mode),
+        Command::LoadUnload => 0,
+        Command::Locate => 0,
+        Command::ReadPosition => POSITION_LENGTH,
+    }
+}
+
+pub fn verdict(h: Header, state: State, q: Request, room: usize) -> Verdict
+    requires { ⌜ (q .count < 2 ^ 24) × (h .size ≤ 1024) ⌝ }
+    ensures { λ r. ⌜ r ≡ verdictOf h state q room ⌝ }
+{
+    let command = q.command;
+    let attention = state.attention;
+    let conditions = conditions_of(command);
+    let held = is_pending(attention) & !conditions.exempt;
+    if held {
+        return Verdict::Ends(unit_attention(attention));
+    }
+    let unknown = is_unknown(command);
+    if unknown {
+        return Verdict::Ends(invalid_opcode());
+    }
+    let field = bad_field(q);
+    if field {
+        return Verdict::Ends(invalid_field());
+    }
+    let length = bad_list_length(q);
+    if length {
+        return Verdict::Ends(wrong_list_length());
+    }
+    let absent = conditions.mounted & !state.loaded;
+    if absent {
+        return Verdict::Ends(not_loaded());
+    }
+    let protected = conditions.stores & (h.protect == 1);
+    if protected {
+        return Verdict::Ends(write_protected());
+    }
+    let short = room < needed(h, q);
+    if short {
+        return Verdict::Refuses(SHORT_BUFFER);
+    }
+    Verdict::Works
+}
+
+const SPEEDS: [u16; 5] = [0, 62, 125, 250, 500];
+
+pub fn is_speed(speed: u16) -> bool
+    ensures { λ r. ⌜ r ≡ isIn speed speeds ⌝ }
+{
+    is_in(speed, &SPEEDS)
+}
+
+pub fn keeps_record_rules(h: Header, state: State) -> bool
+    ensures { λ r. ⌜ r ≡ keepsRecordRules h state ⌝ }
+{
+    let speed = state.speed;
+    let known = is_speed(speed);
+    (state.position <= h.recorded) & known & (state.sense.key <= HIGHEST_KEY)
+}
