@@ -1,0 +1,9 @@
+pub mod Drives
+pub mod Rules
+pub mod Motions
+pub mod Arguments
+pub mod Reports
+pub mod Commands
+pub mod Train
+pub mod Events
+pub mod Calls

@@ -1,0 +1,63 @@
+// Insertion, removal, and time that passes.
+ghost use mathlib.Core.Path.{_≡_};
+ghost use Rattle.pulse.specs.Events.{exchanged, inserted, emptied, removed};
+use crate::drive;
+use crate::drive::Drive;
+use pulse_parts::Cartridge;
+use pulse_parts::Head;
+use pulse_parts::Marks;
+use pulse_parts::Waiting;
+use pulse_parts::cartridge;
+use pulse_parts::errors;
+use pulse_parts::head;
+use pulse_parts::marks;
+use pulse_parts::reports;
+
+impl Drive {
+    fn exchange(self, cart: Cartridge, head: Head, marks: Marks) -> Self
+        ensures { λ r. ⌜ r ≡ exchanged self cart head marks ⌝ }
+    {
+        let fault = self.fault;
+        let report = reports::no_report();
+        Drive {
+            cart: cart,
+            head: head,
+            marks: marks,
+            fault: fault,
+            report: report,
+            waiting: Waiting::Nothing,
+            rate: self.rate,
+            level: self.level,
+            vendor: self.vendor,
+            rom: self.rom,
+        }
+    }
+
+    pub(crate) fn insert_step(self, cart: Cartridge, place: u16) -> Self
+        ensures { λ r. ⌜ r ≡ inserted self cart place ⌝ }
+    {
+        let head = head::standing_at(place);
+        let marks = marks::new_marks();
+        self.exchange(cart, head, marks).start_load()
+    }
+
+    fn empty(self) -> Self
+        ensures { λ r. ⌜ r ≡ emptied self ⌝ }
+    {
+        let cart = cartridge::no_cartridge();
+        let head = head::standing_at(0);
+        let marks = marks::no_marks();
+        self.exchange(cart, head, marks)
+    }
+
+    pub(crate) fn remove_step(self) -> Self
+        ensures { λ r. ⌜ r ≡ removed self ⌝ }
+    {
+        let ready = self.is_ready();
+        if ready {
+            return self.empty();
+        }
+        self.latch(errors::CARTRIDGE_MISSING, drive::NO_COMMAND)
+            .empty()
+    }
+}

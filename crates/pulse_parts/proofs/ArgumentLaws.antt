@@ -1,0 +1,39 @@
+-- What an argument is known to be once it was read.
+-- Assumes nothing.
+use Prim.Native.Nat.{ℕ, _-_, _≤_}
+use native.Mathlib.Omega.{arith}
+use mathlib.Core.Bool.{Bool, true, false, cond}
+use mathlib.Core.Path.{_≡_, refl, sym, _∙_}
+use borrow.Author.Tests.{ne-eqb, leb-true}
+use Rattle.pulse_parts.specs.Arguments.{needed, inRange, nibbleOf, highestNibble, highestRate}
+use Rattle.pulse_parts.specs.Codes.{seekTrack, selectRate}
+use Rattle.numbers.specs.Choice.{_≡ᵇ_}
+use Rattle.pulse_parts.specs.declared.arguments.Nibble.{Nibble}
+use Rattle.pulse_parts.specs.declared.arguments.Nibble.the-variants.{Value, OutOfRange}
+
+pub needed-none : (code : ℕ) → 36 ≤ code → 0 ≡ needed code
+unfolding needed
+needed-none code h =
+    simp (
+      ne-eqb code 13 (λ e. omega arith),
+      ne-eqb code 27 (λ e. omega arith),
+      ne-eqb code 25 (λ e. omega arith),
+      ne-eqb code 26 (λ e. omega arith),
+      ne-eqb code 34 (λ e. omega arith),
+      ne-eqb code 35 (λ e. omega arith),
+    )
+
+pub value-in-range : (code n value : ℕ) → nibbleOf code n ≡ Value value → inRange code value ≡ true
+unfolding nibbleOf
+value-in-range code n value e = by (inRange code (n - 2)) refl
+  where
+    by : (b : Bool) → inRange code (n - 2) ≡ b → inRange code value ≡ true
+    by true q = let v : n - 2 ≡ value = (let p = rw q at e in cc) in rw v at q
+    by false q = let p = rw q at e in absurd (let z : _≡_ {A = ℕ} 0 1 = cc in omega arith)
+
+module _ (code value : ℕ) (r : inRange code value ≡ true) (t : (code ≡ᵇ seekTrack) ≡ false) where
+  pub rate-in-range : (code ≡ᵇ selectRate) ≡ true → value ≤ highestRate
+  rate-in-range s = leb-true _ _ (rw (t, s) at r)
+
+  pub nibble-in-range : (code ≡ᵇ selectRate) ≡ false → value ≤ highestNibble
+  nibble-in-range s = leb-true _ _ (rw (t, s) at r)

@@ -1,0 +1,154 @@
+// A report's items, and the bits of each report (000, table 2c).
+ghost use mathlib.Core.Path.{_≡_};
+ghost use Prim.Native.Nat.{_+_, _*_, _≤_};
+ghost use Rattle.pulse_parts.specs.Reports.{noReport, reportOf8, reportOf16, isOpen, itemsLeft, itemLevel, reportFits, bit, statusBits, errorBits, configurationBits, tapeBits, owing};
+use crate::cartridge::Cartridge;
+use crate::fault;
+use crate::fault::Fault;
+use crate::head;
+use crate::head::Head;
+use crate::marks::Marks;
+
+// The items of a report of eight bits and of sixteen, with the final 1. 01: "report items left <= 17".
+const BYTE_ITEMS: u8 = 9;
+
+const WORD_ITEMS: u8 = 17;
+
+const MOST_ITEMS: u8 = WORD_ITEMS;
+
+// 000, table 2c: the type "307.5 ft. 550 Oe (XL)" is of extra length, the format QIC-80 is 2.
+const EXTRA_LENGTH: u8 = 2;
+
+const QIC_80: u8 = 2;
+
+// The items left, the bits not sent yet, the next one lowest, and whether a repeat is owed.
+pub struct Report {
+    pub left: u8,
+    pub bits: u16,
+    pub repeat: bool,
+}
+
+pub fn no_report() -> Report
+    ensures { λ r. ⌜ r ≡ noReport ⌝ }
+{
+    Report {
+        left: 0,
+        bits: 0,
+        repeat: false,
+    }
+}
+
+pub fn report_of_8(bits: u16) -> Report
+    ensures { λ r. ⌜ r ≡ reportOf8 bits ⌝ }
+{
+    Report {
+        left: BYTE_ITEMS,
+        bits: bits,
+        repeat: false,
+    }
+}
+
+pub fn report_of_16(bits: u16) -> Report
+    ensures { λ r. ⌜ r ≡ reportOf16 bits ⌝ }
+{
+    Report {
+        left: WORD_ITEMS,
+        bits: bits,
+        repeat: false,
+    }
+}
+
+pub fn is_open(r: Report) -> bool
+    ensures { λ b. ⌜ b ≡ isOpen r ⌝ }
+{
+    0 < r.left
+}
+
+pub fn report_fits(r: Report) -> bool
+    ensures { λ b. ⌜ b ≡ reportFits r ⌝ }
+{
+    (r.left <= MOST_ITEMS) & (!r.repeat | (0 < r.left))
+}
+
+pub fn item_level(r: Report) -> bool
+    ensures { λ b. ⌜ b ≡ itemLevel r ⌝ }
+{
+    (r.left <= 1) | (r.bits % 2 == 1)
+}
+
+pub fn items_left(r: Report) -> Report
+    ensures { λ p. ⌜ p ≡ itemsLeft r ⌝ }
+{
+    let left = r.left;
+    let bits = r.bits;
+    if left <= 1 {
+        return no_report();
+    }
+    Report {
+        left: left - 1,
+        bits: bits / 2,
+        repeat: false,
+    }
+}
+
+pub fn owing(r: Report, repeat: bool) -> Report
+    ensures { λ p. ⌜ p ≡ owing r repeat ⌝ }
+{
+    let mut next = r;
+    next.repeat = repeat;
+    next
+}
+
+fn bit_of(on: bool) -> u16
+    ensures { λ r. ⌜ (r ≡ bit on) × (r ≤ 1) ⌝ }
+{
+    if on { 1 } else { 0 }
+}
+
+pub fn status_bits(h: Head, f: Fault, m: Marks, c: Cartridge) -> u16
+    ensures { λ r. ⌜ r ≡ statusBits h f m c ⌝ }
+{
+    let motion = h.motion;
+    let inside = m.inside;
+    let ready = head::is_still(motion);
+    let held = fault::is_held(f);
+    bit_of(ready)
+        + bit_of(held) * 2
+        + bit_of(inside) * 4
+        + bit_of(c.protected) * 8
+        + bit_of(m.fresh) * 16
+        + bit_of(m.referenced) * 32
+        + bit_of(inside & (h.place == 0)) * 64
+        + bit_of(inside & (h.place == c.segments)) * 128
+}
+
+pub fn error_bits(f: Fault) -> u16
+    ensures { λ r. ⌜ r ≡ errorBits f ⌝ }
+{
+    let error = f.error as u16;
+    let command = f.command as u16;
+    error + command * 256
+}
+
+pub fn configuration_bits(rate: u8, m: Marks, c: Cartridge) -> u16
+    ensures { λ r. ⌜ r ≡ configurationBits rate m c ⌝ }
+{
+    let speed = rate as u16;
+    let known = m.referenced;
+    speed * 8
+        + bit_of(known & (c.kind == EXTRA_LENGTH)) * 64
+        + bit_of(known & (c.format == QIC_80)) * 128
+}
+
+pub fn tape_bits(m: Marks, c: Cartridge) -> u16
+    ensures { λ r. ⌜ r ≡ tapeBits m c ⌝ }
+{
+    let format = c.format as u16;
+    let kind = c.kind as u16;
+    let wide = bit_of(c.wide) * 128;
+    let known = m.referenced;
+    if known {
+        return format + kind * 16 + wide;
+    }
+    wide
+}
