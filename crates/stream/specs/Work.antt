@@ -1,7 +1,7 @@
 -- The work of each command, once nothing before it ended the packet.
 -- Assumes nothing.
 use Prim.Native.Nat.{ℕ, _*_, _-_, min}
-use mathlib.Core.Bool.{Bool, true, false, _&&_}
+use mathlib.Core.Bool.{Bool, not, _&&_}
 use mathlib.Core.List.{List}
 use lib.ListN.{length, getD, take}
 use Rattle.numbers.specs.Choice.{if_then_else_, _≡ᵇ_, _<ᵇ_, _≤ᵇ_}
@@ -73,14 +73,13 @@ markWork s h st asked buf = writeEnds h st asked 0 buf (markFrom (h .kinds) (h .
 
 -- ---- 11h SPACE
 
+-- "Code 0 passes blocks .. Code 1 passes filemarks", on, or back where the count is negative
 unfoldable pub spaceRun : List ℕ → Header → ℕ → ℕ → ℕ → Moved
 spaceRun s h p code count =
-    if code ≡ᵇ overBlocks then
-    (if isBack count then blocksBack s (h .kinds) p (magnitude count) else
-    blocksOn s (h .kinds) (h .recorded) (magnitude count) p)
-    else
-    (if isBack count then marksBack s (h .kinds) p (magnitude count) else
-    marksOn s (h .kinds) (h .recorded - p) (magnitude count) p)
+    if (code ≡ᵇ overBlocks) && isBack count then blocksBack s (h .kinds) p (magnitude count) else
+    if code ≡ᵇ overBlocks then blocksOn s (h .kinds) (h .recorded) (magnitude count) p else
+    if isBack count then marksBack s (h .kinds) p (magnitude count) else
+    marksOn s (h .kinds) (h .recorded - p) (magnitude count) p
 
 abbrev pub spaceEnds : State → Moved → Outcome
 spaceEnds st moved = ends (atPlace st (moved .place)) (endingOf (moved .stop) (moved .left)) 0 0
@@ -111,12 +110,12 @@ listSpeed list = countAt list 26 2
 unfoldable pub goodList : List ℕ → Bool
 goodList list = (getD list 12 0 ≡ᵇ devicePage) && (getD list 13 0 ≡ᵇ 0x12) && isIn (listSpeed list) speeds
 
+-- "Length 32: page bytes 2Ah 12h and speed .., else 5/26/00; other bytes ignored."
 unfoldable pub selectWork : State → ℕ → List ℕ → Outcome
 selectWork st asked list =
-    if asked ≡ᵇ fullList then
-    (if goodList list then ends (withSpeed st (listSpeed list)) Good 0 asked else
-    ends st (Check wrongList) 0 0)
-    else ends st Good 0 asked
+    if not (asked ≡ᵇ fullList) then ends st Good 0 asked else
+    if not (goodList list) then ends st (Check wrongList) 0 0 else
+    ends (withSpeed st (listSpeed list)) Good 0 asked
 
 -- ---- 1Bh LOAD/UNLOAD, 2Bh LOCATE
 

@@ -1,0 +1,16 @@
+pub mod Bools
+pub mod Rules
+pub mod Motion
+pub mod Idle
+pub mod Arguments
+pub mod Reports
+pub mod Commands
+pub mod Trains
+pub mod Calls
+pub mod Kept
+pub mod Ticks
+pub mod Resting
+pub mod Reading
+pub mod Recovery
+pub mod Answers
+pub mod PlateTable

@@ -1,0 +1,21 @@
+-- The table of plates, computed.
+-- Assumes nothing.
+use mathlib.Core.Path.{refl}
+use Rattle.numbers.specs.Member.{isIn}
+use Rattle.pulse_parts.specs.Arguments.{needed, nibbleOf}
+use Rattle.pulse.specs.Arguments.{argumentRead, argumentTaken, nibbleTaken, skipped, stepArgument, trackSought}
+use Rattle.pulse.specs.Calls.{insertCall, trainCall}
+use Rattle.pulse.specs.Commands.{checked, obeyed, stepCommand}
+use Rattle.pulse.specs.Drives.{powerOn}
+use Rattle.pulse.specs.Events.{inserted}
+use Rattle.pulse.specs.Motions.{latched, loadStarted, runStarted}
+use Rattle.pulse.specs.Reports.{errorRead, itemGiven, reportOf, statusAsked, stepOpenReport, stepReport}
+use Rattle.pulse.specs.Rules.{cartridgeFits, keepsRules}
+use Rattle.pulse.specs.Train.{stepReset, stepUnsupported, trainStep}
+use Rattle.pulse_laws.specs.Demands.{PlatesPrint}
+use Rattle.pulse_laws.specs.Plates.{every, prints, same}
+use Rattle.pulse_laws.specs.Runs.{afterTrains, answers}
+
+pub plates-print : PlatesPrint
+unfolding afterTrains answers every prints same powerOn insertCall inserted loadStarted trainCall keepsRules cartridgeFits isIn trainStep stepReset stepArgument argumentRead argumentTaken trackSought nibbleOf needed nibbleTaken skipped runStarted stepReport itemGiven stepUnsupported latched stepOpenReport reportOf statusAsked errorRead stepCommand checked obeyed
+plates-print = refl

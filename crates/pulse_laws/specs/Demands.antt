@@ -1,0 +1,105 @@
+-- What is demanded of the pulse drive: each demand is one type, proved under the same name in proofs/.
+-- Assumes nothing.
+use Prim.Native.Nat.{ℕ, _-_, min}
+use mathlib.Core.Bool.{true, false, not, _||_}
+use mathlib.Core.List.{map}
+use mathlib.Core.Logic.{_≢_}
+use mathlib.Core.Path.{_≡_}
+use lib.ListN.{drop, length, replicate}
+use Rattle.numbers.specs.Choice.{_≡ᵇ_}
+use Rattle.pulse_parts.specs.declared.cartridge.Cartridge.{Cartridge}
+use Rattle.pulse_parts.specs.Codes.{softReset}
+use Rattle.pulse_parts.specs.Errors.{noError}
+use Rattle.pulse_parts.specs.Faults.{errorHeld}
+use Rattle.pulse.specs.declared.calls.Step.{Step}
+use Rattle.pulse.specs.declared.drive.Drive.{Drive}
+use Rattle.pulse.specs.Calls.{alreadySo, emptyTrain, insertCall, notRefused, removeCall, tickCall, trainCall, waitCall}
+use Rattle.pulse.specs.Drives.{isReady, powerOn}
+use Rattle.pulse.specs.Rules.{keepsRules}
+use Rattle.pulse_laws.specs.Plates.{every, plates}
+use Rattle.pulse_laws.specs.Runs.{Exactly, KeepsIfRefused, Reachable, Settles, afterTicks, afterTrains, answers, beforeErrorReport, distance, outsideItsRanges, placeAfter, recoveryTrains, silentTicks, spelled}
+
+-- 01: "Every record that power-on or a call gives keeps the record rules."
+pub record RulesKept : Type 0 where
+  pub power-on : (vendor rom : ℕ) → keepsRules (powerOn vendor rom) ≡ true
+  pub train : (d : Drive) (n : ℕ) → keepsRules d ≡ true → keepsRules (trainCall d n .drive) ≡ true
+  pub tick : (d : Drive) → keepsRules d ≡ true → keepsRules (tickCall d .drive) ≡ true
+  pub insert : (d : Drive) (cart : Cartridge) (place : ℕ) → keepsRules d ≡ true → keepsRules (insertCall d cart place .drive) ≡ true
+  pub remove : (d : Drive) → keepsRules d ≡ true → keepsRules (removeCall d .drive) ≡ true
+  pub wait : (d : Drive) (limit : ℕ) → keepsRules d ≡ true → keepsRules (waitCall d limit .drive) ≡ true
+
+-- 01: "A refusal returns its number, .. (pulse calls: level 0, 0 ticks), and alters nothing"
+pub record RefusedKeeps : Type 0 where
+  pub train : (d : Drive) (n : ℕ) → KeepsIfRefused d (trainCall d n)
+  pub tick : (d : Drive) → KeepsIfRefused d (tickCall d)
+  pub insert : (d : Drive) (cart : Cartridge) (place : ℕ) → KeepsIfRefused d (insertCall d cart place)
+  pub remove : (d : Drive) → KeepsIfRefused d (removeCall d)
+  pub wait : (d : Drive) (limit : ℕ) → waitCall d limit .number ≢ notRefused →
+      (waitCall d limit .level ≡ false) × (waitCall d limit .ticks ≡ 0) × (waitCall d limit .drive ≡ d)
+
+-- 01: "Given exactly when"; "Pulse order: 8, then 7 or 5, then 6."
+pub record NumberExactly : Type 0 where
+  pub train : (d : Drive) (n : ℕ) → Exactly (trainCall d n .number) (not (keepsRules d)) emptyTrain (n ≡ᵇ 0) false
+  pub tick : (d : Drive) → Exactly (tickCall d .number) (not (keepsRules d)) emptyTrain false false
+  pub insert : (d : Drive) (cart : Cartridge) (place : ℕ) →
+      Exactly (insertCall d cart place .number) (not (keepsRules d)) alreadySo (d .marks .inside) (outsideItsRanges cart place)
+  pub remove : (d : Drive) → Exactly (removeCall d .number) (not (keepsRules d)) alreadySo (not (d .marks .inside)) false
+  pub wait : (d : Drive) (limit : ℕ) → Exactly (waitCall d limit .number) (not (keepsRules d)) emptyTrain false false
+
+-- 01 shuts out "a tick that does nothing, or a first tick that jumps to the target while later ones pretend (the place is fixed after each tick)"
+abbrev pub TickPlace : Type 0
+TickPlace =
+    (d : Drive) (k : ℕ) → keepsRules d ≡ true →
+    (tickCall (afterTicks k d) .number ≡ notRefused)
+    × (afterTicks k d .head .place ≡ placeAfter k (d .head .place) (d .head .target))
+    × (afterTicks k d .head .target ≡ d .head .target)
+    × (distance (afterTicks k d) ≡ distance d - k)
+
+-- 01: "A wait call ticks until ready or a limit, and its answer counts the ticks: the smaller of limit and distance left."
+abbrev pub WaitCounts : Type 0
+WaitCounts =
+    (d : Drive) (limit : ℕ) → keepsRules d ≡ true →
+    (waitCall d limit .number ≡ notRefused)
+    × (waitCall d limit .ticks ≡ min limit (distance d))
+    × (waitCall d limit .drive ≡ afterTicks (waitCall d limit .ticks) d)
+
+-- a wait call leads to no drive that ticks do not lead to
+abbrev pub WaitReaches : Type 0
+WaitReaches = (d : Drive) (limit : ℕ) → Reachable d → Reachable (waitCall d limit .drive)
+
+-- "the 46 recovery trains leave the drive ready, with no error, no new mark and no open report; their bits name the error that was held;
+-- the tape stands still": after each of the trains, and at the end
+pub record Recovered (before rested last : Drive) : Type 0 where
+  pub answered : map (λ (s : Step). s .number) (answers rested recoveryTrains) ≡ replicate 46 notRefused
+  pub ready : isReady last ≡ true
+  pub errorless : last .fault .error ≡ noError
+  pub known : last .marks .fresh ≡ false
+  pub closed : last .report .left ≡ 0
+  pub named : map (λ (s : Step). s .level) (drop (length beforeErrorReport) (answers rested recoveryTrains)) ≡ spelled (before .fault)
+  pub stood : map (λ (s : Step). s .drive .head) (answers rested recoveryTrains) ≡ replicate 46 (rested .head)
+  pub stands : last .head ≡ rested .head
+
+-- "From any reachable pulse state with a cartridge in: after as many silent ticks as a track has segments, the 46 recovery trains .."
+abbrev pub Recovers : Type 0
+Recovers =
+    (d : Drive) → Reachable d → d .marks .inside ≡ true →
+    Recovered d (afterTicks (silentTicks d) d) (afterTrains (afterTicks (silentTicks d) d) recoveryTrains)
+
+-- "While an error or that mark stands, no train but soft reset starts the tape."
+abbrev pub OnlyResetStarts : Type 0
+OnlyResetStarts =
+    (d : Drive) (n : ℕ) → keepsRules d ≡ true → isReady d ≡ true → (errorHeld (d .fault) || d .marks .fresh) ≡ true → n ≢ softReset →
+    trainCall d n .drive .head ≡ d .head
+
+-- 01: "Prove that any two outcomes allowed by it coincide"
+pub record Settled : Type 0 where
+  pub power-on : (vendor rom : ℕ) → Settles (powerOn vendor rom)
+  pub train : (d : Drive) (n : ℕ) → Settles (trainCall d n)
+  pub tick : (d : Drive) → Settles (tickCall d)
+  pub insert : (d : Drive) (cart : Cartridge) (place : ℕ) → Settles (insertCall d cart place)
+  pub remove : (d : Drive) → Settles (removeCall d)
+  pub wait : (d : Drive) (limit : ℕ) → Settles (waitCall d limit)
+
+-- 01: "A small set is proved together as one table (*)"
+abbrev pub PlatesPrint : Type 0
+PlatesPrint = every plates ≡ true

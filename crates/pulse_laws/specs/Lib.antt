@@ -1,0 +1,3 @@
+pub mod Runs
+pub mod Plates
+pub mod Demands

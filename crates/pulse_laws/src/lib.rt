@@ -1,0 +1,1 @@
+// Theorems about the pulse drive; specs/Demands.antt states them, proofs/ proves them.
