@@ -24,7 +24,10 @@ use stream_parts::replies::mode_header;
 use stream_parts::replies::mode_whole;
 use stream_parts::replies::position_bytes;
 use stream_parts::replies::sense_bytes;
+use stream_parts::requests::DEVICE_PAGE;
+use stream_parts::requests::OVER_BLOCKS;
 use stream_parts::requests::Request;
+use stream_parts::requests::TO_END_OF_DATA;
 use stream_parts::requests::is_back;
 use stream_parts::requests::magnitude_of;
 use stream_parts::senses::beginning_of_tape;
@@ -113,7 +116,7 @@ fn write(image: &mut [u8], h: Header, state: State, asked: usize, buf: &[u8]) ->
     end_moved(state, asked, size, moved, ending)
 }
 
-// No bytes are taken from the buffer, which is only named here for the contract.
+// 10h takes no bytes of the buffer; it is lent so that the promise can say that it stays.
 fn write_marks(image: &mut [u8], h: Header, state: State, asked: usize, buf: &[u8]) -> Outcome
     requires { ⌜ (headerOf (now image) ≡ Good h) × ((state .position ≤ h .recorded) × (asked < 2 ^ 24)) ⌝ }
     ensures { λ r. ⌜ done r (now (image .exit)) (now (buf .entry)) ≡ markWork (now (image .entry)) h state asked (now (buf .entry)) ⌝ }
@@ -123,10 +126,6 @@ fn write_marks(image: &mut [u8], h: Header, state: State, asked: usize, buf: &[u
     let ending = write_ending(h, asked, moved);
     end_moved(state, asked, 0, moved, ending)
 }
-
-const OVER_BLOCKS: u8 = 0;
-
-const TO_END_OF_DATA: u8 = 3;
 
 fn space_run(image: &[u8], h: Header, p: usize, code: u8, count: usize) -> Moved
     requires { ⌜ (headerOf (now image) ≡ Good h) × ((p ≤ h .recorded) × (count < 2 ^ 24)) ⌝ }
@@ -211,8 +210,6 @@ fn read_position(h: Header, state: State, buf: &mut [u8]) -> Outcome
     let bytes = position_bytes(h, state);
     reply(&bytes, 20, state, buf)
 }
-
-const DEVICE_PAGE: u8 = 0x2A;
 
 const PAGE_LENGTH: u8 = 0x12;
 

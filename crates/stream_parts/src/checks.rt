@@ -6,7 +6,14 @@ ghost use Rattle.stream_parts.specs.Checks.{conditionsOf, isPending, isU
 ghost use Rattle.stream_parts.specs.Replies.{isProtected, modeLength};
 ghost use Rattle.stream_parts.specs.States.{speeds, keepsRecordRules};
 use crate::replies::mode_length;
+use crate::requests::DEVICE_PAGE;
+use crate::requests::FULL_LIST;
+use crate::requests::HEADER_ALONE;
+use crate::requests::OVER_BLOCKS;
+use crate::requests::OVER_FILEMARKS;
 use crate::requests::Request;
+use crate::requests::SHORT_LIST;
+use crate::requests::TO_END_OF_DATA;
 use crate::senses::invalid_field;
 use crate::senses::invalid_opcode;
 use crate::senses::not_loaded;
@@ -19,20 +26,6 @@ use crate::state::Verdict;
 use image::header::Header;
 use numbers::tables::is_in;
 use opcodes::Command;
-
-const OVER_BLOCKS: u8 = 0;
-
-const OVER_FILEMARKS: u8 = 1;
-
-const TO_END_OF_DATA: u8 = 3;
-
-const HEADER_ALONE: u8 = 0x00;
-
-const DEVICE_PAGE: u8 = 0x2A;
-
-const SHORT_LIST: u8 = 12;
-
-const FULL_LIST: u8 = 32;
 
 const SENSE_LENGTH: usize = 20;
 

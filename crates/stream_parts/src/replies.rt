@@ -5,6 +5,7 @@ ghost use Prim.Native.Nat.{_%_, _≤_};
 ghost use Rattle.numbers.specs.Choice.{if_then_else_, _≡ᵇ_};
 ghost use Rattle.stream_parts.specs.Replies.{bit, senseBytes, inquiryBytes, modeHeader, modePage, positionBytes};
 ghost use Rattle.stream_parts.specs.Requests.{devicePage, shortList, fullList};
+use crate::requests::DEVICE_PAGE;
 use crate::state::Sense;
 use crate::state::State;
 use image::header::Header;
@@ -88,7 +89,7 @@ pub const INQUIRY: [u8; 36] = [
 pub fn mode_length(page: u8) -> usize
     ensures { λ r. ⌜ r ≡ (if page % 64 ≡ᵇ devicePage then fullList else shortList) ⌝ }
 {
-    let whole = page % 64 == 0x2A;
+    let whole = page % 64 == DEVICE_PAGE;
     if whole {
         return 32;
     }

@@ -8,6 +8,22 @@ use numbers::counts::count4;
 use opcodes::Command;
 use opcodes::command_of;
 
+// 11h: the codes of SPACE.
+pub const OVER_BLOCKS: u8 = 0;
+
+pub const OVER_FILEMARKS: u8 = 1;
+
+pub const TO_END_OF_DATA: u8 = 3;
+
+// 1Ah: the two page codes; 15h: the two list lengths beside 0.
+pub const HEADER_ALONE: u8 = 0x00;
+
+pub const DEVICE_PAGE: u8 = 0x2A;
+
+pub const SHORT_LIST: u8 = 12;
+
+pub const FULL_LIST: u8 = 32;
+
 pub struct Request {
     pub command: Command,
     pub flags: u8, // byte 1
