@@ -1,0 +1,99 @@
+-- How the work ends: the sense of each ending, its key and its residue.
+-- Assumes nothing.
+use Prim.Native.Nat.{ℕ, _+_, _-_, _≤_}
+use native.Mathlib.Omega.{arith}
+use mathlib.Core.Bool.{Bool, true, false, _&&_}
+use mathlib.Core.Path.{_≡_, refl}
+use borrow.Author.Tests.{le-leb, leb-true, leb-false}
+use lib.Dec.{leb}
+use Rattle.numbers.specs.Choice.{if_then_else_}
+use Rattle.numbers.specs.Member.{isIn}
+use Rattle.numbers.proofs.RuleLaws.{split}
+use Rattle.image.specs.declared.header.Header.{Header}
+use Rattle.transfer.specs.declared.Moved.{Moved}
+use Rattle.transfer.specs.declared.Stop.{Stop}
+use Rattle.transfer.specs.declared.Stop.the-variants.{Full, AtFilemark, AtBadBlock, AtEnd, AtBeginning}
+use Rattle.transfer.proofs.EndLaws.{Ended}
+use Rattle.stream_parts.specs.declared.state.Ending.{Ending}
+use Rattle.stream_parts.specs.declared.state.Ending.the-variants.{Good, Check}
+use Rattle.stream_parts.specs.declared.state.Sense.{Sense}
+use Rattle.stream_parts.specs.declared.state.State.{State}
+use Rattle.stream_parts.specs.Answers.{answeredWith, ends, goodStatus, checkCondition}
+use Rattle.stream_parts.specs.Replies.{pastWarning}
+use Rattle.stream_parts.specs.Senses.{noSense, volumeOverflow, earlyWarning}
+use Rattle.stream_parts.specs.States.{speeds, highestKey, keepsRecordRules}
+use Rattle.stream.specs.Work.{endingOf, writeEnding}
+use Rattle.stream_laws.specs.Words.{residueOf}
+
+abbrev pub senseOf : Ending → Sense
+senseOf Good = noSense
+senseOf (Check x) = x
+
+abbrev pub statusFor : Ending → ℕ
+statusFor Good = goodStatus
+statusFor (Check x) = checkCondition
+
+pub ends-is : (st : State) (e : Ending) (blocks bytes : ℕ) → ends st e blocks bytes ≡ answeredWith st (statusFor e) (senseOf e) blocks bytes
+unfolding ends
+ends-is st Good blocks bytes = refl
+ends-is st (Check x) blocks bytes = refl
+
+-- ---- keys
+
+pub ending-key : (stop : Stop) (left : ℕ) → senseOf (endingOf stop left) .key ≤ highestKey
+unfolding endingOf
+ending-key Full left = omega arith
+ending-key AtFilemark left = omega arith
+ending-key AtBadBlock left = omega arith
+ending-key AtEnd left = omega arith
+ending-key AtBeginning left = omega arith
+
+pub write-key : (h : Header) (asked : ℕ) (m : Moved) → senseOf (writeEnding h asked m) .key ≤ highestKey
+unfolding writeEnding
+write-key h asked m = by (leb 1 (m .left)) (leb 1 asked && pastWarning h (m .place))
+  where
+    by : (a b : Bool) → senseOf (if a then Check (volumeOverflow (m .left)) else if b then Check earlyWarning else Good) .key ≤ highestKey
+    by true b = omega arith
+    by false true = omega arith
+    by false false = omega arith
+
+-- ---- residues
+
+pub read-residue : (n : ℕ) (m : Moved) → Ended n m → n - m .left + residueOf (senseOf (endingOf (m .stop) (m .left))) ≡ n
+unfolding endingOf
+read-residue n m e = by (m .stop) refl
+  where
+    by : (stop : Stop) → m .stop ≡ stop → n - m .left + residueOf (senseOf (endingOf stop (m .left))) ≡ n
+    by Full q = let z = e .full q in omega arith
+    by AtFilemark q = let l = e .less in omega arith
+    by AtBadBlock q = let l = e .less in omega arith
+    by AtEnd q = let l = e .less in omega arith
+    by AtBeginning q = let l = e .less in omega arith
+
+pub write-residue : (h : Header) (n : ℕ) (m : Moved) → Ended n m → n - m .left + residueOf (senseOf (writeEnding h n m)) ≡ n
+unfolding writeEnding
+write-residue h n m e = by (leb 1 (m .left)) (leb 1 n && pastWarning h (m .place)) refl
+  where
+    by : (a b : Bool) → leb 1 (m .left) ≡ a
+        → n - m .left + residueOf (senseOf (if a then Check (volumeOverflow (m .left)) else if b then Check earlyWarning else Good)) ≡ n
+    by true b p = let l = e .less in omega arith
+    by false true p = let z = leb-false 1 (m .left) p in omega arith
+    by false false p = let z = leb-false 1 (m .left) p in omega arith
+
+-- ---- refusal 3's rules
+
+pub record Ruly (h : Header) (st : State) : Type 0 where
+  pub place : st .position ≤ h .recorded
+  pub speed : isIn (st .speed) speeds ≡ true
+  pub key : st .sense .key ≤ highestKey
+
+pub ruly-of : (h : Header) (st : State) → keepsRecordRules h st ≡ true → Ruly h st
+unfolding keepsRecordRules
+ruly-of h st e =
+    let p = split (leb (st .position) (h .recorded) && isIn (st .speed) speeds) (leb (st .sense .key) highestKey) e in
+    let r = split (leb (st .position) (h .recorded)) (isIn (st .speed) speeds) (p .0) in
+    record { place = leb-true _ _ (r .0); speed = r .1; key = leb-true _ _ (p .1) }
+
+pub of-ruly : (h : Header) (st : State) → Ruly h st → keepsRecordRules h st ≡ true
+unfolding keepsRecordRules
+of-ruly h st r = rw (le-leb _ _ (r .place), r .speed, le-leb _ _ (r .key))

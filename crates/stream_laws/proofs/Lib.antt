@@ -1,0 +1,9 @@
+pub mod Endings
+pub mod Keeping
+pub mod Leaving
+pub mod PlateTable
+pub mod ReadingBack
+pub mod Refusals
+pub mod Runs
+pub mod Ways
+pub mod Working

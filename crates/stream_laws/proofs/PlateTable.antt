@@ -1,0 +1,22 @@
+-- 01's worked examples marked *, computed.
+-- Assumes nothing.
+use mathlib.Core.Path.{refl}
+use Rattle.numbers.specs.Member.{isIn}
+use Rattle.numbers.specs.RuleList.{allHold}
+use Rattle.image.specs.Elements.{kindOf, kindAt, blockAt, recordAs, storeBlock, storeFilemark}
+use Rattle.image.specs.Header.{fieldsOf, keepsHeaderRules, headerOf}
+use Rattle.opcodes.specs.Commands.{commandOf}
+use Rattle.transfer.specs.Reading.{readFrom}
+use Rattle.transfer.specs.Spacing.{blocksOn, blocksBack, marksOn, marksBack}
+use Rattle.transfer.specs.Writing.{writeFrom, markFrom}
+use Rattle.stream_parts.specs.Answers.{ends}
+use Rattle.stream_parts.specs.Checks.{conditionsOf, isPending, isUnknown, badFieldOf, badListLengthOf, neededBy, verdictOf}
+use Rattle.stream.specs.Packet.{packetStep, judged, decided, carriedOut}
+use Rattle.stream_parts.specs.Requests.{requestOf, isBack, magnitude}
+use Rattle.stream_parts.specs.States.{keepsRecordRules}
+use Rattle.stream.specs.Work.{endingOf, readEnds, readWork, writeEnding, writeEnds, writeWork, markWork, spaceRun, spaceWork, firstOf, replyEnds, goodList, selectWork, loadWork, locateWork, workOf}
+use Rattle.stream_laws.specs.Demands.{PlatesPrint}
+
+pub plates-print : PlatesPrint
+unfolding packetStep judged decided carriedOut verdictOf conditionsOf isPending isUnknown badFieldOf badListLengthOf neededBy requestOf isBack magnitude keepsRecordRules commandOf headerOf keepsHeaderRules fieldsOf allHold isIn kindOf kindAt blockAt recordAs storeBlock storeFilemark readFrom blocksOn blocksBack marksOn marksBack writeFrom markFrom ends endingOf readEnds readWork writeEnding writeEnds writeWork markWork spaceRun spaceWork firstOf replyEnds goodList selectWork loadWork locateWork workOf
+plates-print = refl

@@ -1,0 +1,174 @@
+-- A written block reads back the same until something is stored at or before its place.
+-- Assumes nothing.
+use Prim.Native.Nat.{ℕ, suc, _+_, _*_, _-_, _≤_, _<_}
+use native.Mathlib.Nat.{zero-add}
+use native.Mathlib.Omega.{arith}
+use mathlib.Core.Bool.{Bool, true, false}
+use mathlib.Core.List.{List}
+use mathlib.Core.Path.{_≡_, refl, sym, ap, _∙_}
+use borrow.Author.Tests.{leb-true, leb-false, eqb-true, eqb-false}
+use lib.Dec.{leb, eqb}
+use lib.ListN.{length}
+use Rattle.numbers.specs.Over.{part}
+use Rattle.image.specs.declared.elements.Kind.the-variants.{Data}
+use Rattle.image.specs.declared.header.Header.{Header}
+use Rattle.image.specs.declared.header.Judged.the-variants.{Good}
+use Rattle.image.specs.Elements.{kindAt, blockAt}
+use Rattle.image.specs.Header.{fieldsOf, headerOf, withRecorded}
+use Rattle.image.proofs.HeaderLaws.{fields-are, sound}
+use Rattle.opcodes.specs.declared.Command.{Command}
+use Rattle.opcodes.specs.declared.Command.the-variants.{Read, Write}
+use Rattle.transfer.specs.Reading.{readFrom}
+use Rattle.transfer.specs.Writing.{writeFrom}
+use Rattle.transfer.proofs.ReadLaws.{read-run, read-left, read-block}
+use Rattle.transfer.proofs.WriteLaws.{write-run, write-left, write-passed}
+use Rattle.stream_parts.specs.declared.requests.Request.{Request}
+use Rattle.stream_parts.specs.declared.state.State.{State}
+use Rattle.stream_parts.specs.Answers.{Step}
+use Rattle.stream_parts.specs.Checks.{neededBy}
+use Rattle.stream.specs.Packet.{packetStep}
+use Rattle.stream_parts.specs.Requests.{requestOf}
+use Rattle.stream.specs.Work.{workOf, readWork, readEnds, writeWork, writeEnds}
+use Rattle.stream_laws.specs.Words.{numberOf, blocksOf, Begins, stores, gives, IsBlock}
+use Rattle.stream_laws.specs.History.{StoresUpTo, Later, at-once, asked, replaced}
+use Rattle.stream_laws.specs.Demands.{ReadsBack, ReadGives, ReadMoves}
+use Rattle.stream_laws.proofs.Endings.{ends-is, ruly-of}
+use Rattle.stream_laws.proofs.Keeping.{keeps-of}
+use Rattle.stream_laws.proofs.Leaving.{Leaves, accepted-leaves, good-header}
+use Rattle.stream_laws.proofs.Refusals.{refused-keeps}
+use Rattle.stream_laws.proofs.Runs.{data-moved, read-first, blocks-went, blocks-stored}
+use Rattle.stream_laws.proofs.Ways.{Passes}
+use Rattle.stream_laws.proofs.Working.{begins-passes, begins-room, begins-work}
+
+-- a block of an image whose header is known
+is-block : (s : List ℕ) (h : Header) (i : ℕ) (bytes : List ℕ) → headerOf s ≡ Good h → i < h .recorded → kindAt s (h .kinds) i ≡ Data
+    → blockAt s (h .size) (h .blocks) i ≡ bytes → IsBlock s i bytes
+is-block s h i bytes g l k b =
+    let f = fields-are s h g in
+    record { good = keeps-of s h g; recorded = rw f l; kind = rw f k; same = rw f b }
+
+-- ---- one packet
+
+module _ (i : ℕ) (bytes : List ℕ) (s : List ℕ) (st : State) (packet buf : List ℕ) (block : IsBlock s i bytes)
+    (spared : StoresUpTo i s st packet buf → ⊥) where
+  abbrev x : Step
+  x = packetStep s st packet buf
+
+  same-image : x .image ≡ s → IsBlock (x .image) i bytes
+  same-image e = rw e block
+
+  accepted-block : numberOf x ≡ 0 → IsBlock (x .image) i bytes
+  accepted-block e = by (stores packet) (eqb (blocksOf x) 0) (leb (st .position) i) refl refl refl
+    where
+      w : Leaves s st buf (stores packet) (gives (requestOf packet .command)) x
+      w = accepted-leaves s st packet buf e
+
+      by : (a b c : Bool) → stores packet ≡ a → eqb (blocksOf x) 0 ≡ b → leb (st .position) i ≡ c → IsBlock (x .image) i bytes
+      by false b c p q r = same-image (w .no-store p)
+      by true true c p q r = same-image (w .none-stored (eqb-true _ _ q))
+      by true false true p q r =
+          let n : blocksOf x ≡ 0 → ⊥ = eqb-false _ _ q in
+          let m : st .position ≤ i = leb-true _ _ r in
+          absurd (spared (record { a-store = p; some = omega arith; from = omega arith }))
+      by true false false p q r =
+          let l = leb-false _ _ r in
+          let k = w .below i l in
+          is-block (x .image) (withRecorded (fieldsOf s) (w .u)) i bytes (w .header) (omega (arith, w .reached)) (k .kind ∙ block .kind) (k .bytes ∙ block .same)
+
+  still-block : IsBlock (x .image) i bytes
+  still-block = by (eqb (numberOf x) 0) refl
+    where
+      by : (a : Bool) → eqb (numberOf x) 0 ≡ a → IsBlock (x .image) i bytes
+      by true e = accepted-block (eqb-true _ _ e)
+      by false e = same-image (refused-keeps s st packet buf (eqb-false _ _ e) .image-kept)
+
+-- ---- a whole history
+
+later-block : (i : ℕ) (bytes : List ℕ) {s s' : List ℕ} {st st' : State} → Later i s st s' st' → IsBlock s i bytes → IsBlock s' i bytes
+later-block i bytes at-once b = b
+later-block i bytes (asked packet buf l f) b = still-block i bytes _ _ packet buf (later-block i bytes l b) f
+later-block i bytes (replaced st'' l) b = later-block i bytes l b
+
+-- ---- what WRITE stored, what READ copies
+
+module _ (s : List ℕ) (st : State) (q : Request) (buf : List ℕ) (good : headerOf s ≡ Good (fieldsOf s)) (place : st .position ≤ fieldsOf s .recorded)
+    (room : q .count * fieldsOf s .size ≤ length buf) where
+  abbrev h : Header
+  h = fieldsOf s
+
+  written : (j : ℕ) → j < blocksOf (writeWork s h st (q .count) buf)
+      → IsBlock (writeWork s h st (q .count) buf .image) (st .position + j) (part buf (j * h .size) (h .size))
+  unfolding writeWork writeEnds
+  written j b =
+      let n = q .count in
+      let X = writeFrom (h .size) (h .kinds) (h .blocks) (h .capacity) buf n 0 (st .position) s in
+      let run = write-run (h .size) (h .kinds) (h .blocks) (h .capacity) buf n 0 (st .position) s in
+      let less = write-left (h .size) (h .kinds) (h .blocks) (h .capacity) buf n 0 (st .position) s in
+      let passed = write-passed (h .size) (h .kinds) (h .blocks) (h .capacity) buf n 0 (st .position) s in
+      let moved : j < n - X .moved .left = rw ends-is at b in
+      let w = blocks-went h buf (h .recorded) run good place (omega arith) in
+      let z = blocks-stored h buf (h .recorded) run good place (omega arith) j (omega arith) in
+      is-block (X .image) (withRecorded h (w .u)) (st .position + j) _ (w .header) (omega (arith, w .reached)) (z .0) (rw zero-add at (z .1))
+
+  moves-first : (bytes : List ℕ) → IsBlock s (st .position) bytes → 1 ≤ q .count → 1 ≤ blocksOf (readWork s h st (q .count) buf)
+  unfolding readWork readEnds
+  moves-first bytes b l =
+      let n = q .count in
+      let e : n ≡ suc (n - 1) = omega arith in
+      let f = read-first s (h .size) (h .kinds) (h .blocks) (h .recorded) (n - 1) 0 (st .position) buf (b .recorded) (b .kind) in
+      rw ends-is (omega (arith, rw (← e) at f))
+
+  copied-whole : (k : ℕ) → k < blocksOf (readWork s h st (q .count) buf)
+      → IsBlock s (st .position + k) (part (readWork s h st (q .count) buf .buf) (k * h .size) (h .size))
+  unfolding readWork readEnds
+  copied-whole k l =
+      let n = q .count in
+      let less = read-left s (h .size) (h .kinds) (h .blocks) (h .recorded) n 0 (st .position) buf in
+      let g = sound s h good in
+      let m : k + readFrom s (h .size) (h .kinds) (h .blocks) (h .recorded) n 0 (st .position) buf .moved .left < n = omega (arith, rw ends-is at l) in
+      let d = data-moved s (h .size) (h .kinds) (h .blocks) (h .recorded) (read-run s (h .size) (h .kinds) (h .blocks) (h .recorded) n 0 (st .position) buf) k m in
+      let z = read-block s (h .size) (h .kinds) (h .blocks) (h .recorded) n 0 (st .position) buf (omega arith) (g .recorded-blocks) k m in
+      is-block s h (st .position + k) _ good (d .0) (d .1) (sym (rw zero-add at z))
+
+module _ (s : List ℕ) (st : State) (packet buf : List ℕ) (b : Begins s st packet buf) where
+  abbrev p : Passes s st packet buf
+  p = begins-passes s st packet buf b
+
+  -- the packet's outcome under its command
+  step-is : (c : Command) → requestOf packet .command ≡ c → packetStep s st packet buf ≡ workOf c s (fieldsOf s) st (requestOf packet) buf
+  step-is c e = rw (← e) (begins-work s st packet buf b)
+
+  room-is : (c : Command) → requestOf packet .command ≡ c → neededBy c (fieldsOf s) (requestOf packet) ≤ length buf
+  room-is c e = rw (← e) (begins-room s st packet buf b)
+
+pub read-gives : ReadGives
+unfolding workOf neededBy
+read-gives s st packet buf b c =
+    let p = begins-passes s st packet buf b in
+    rw (step-is s st packet buf b Read c)
+    (copied-whole s st (requestOf packet) buf (good-header s (p .good)) (ruly-of _ _ (p .ruly) .place) (room-is s st packet buf b Read c))
+
+pub read-moves : ReadMoves
+unfolding workOf neededBy
+read-moves s st packet buf bytes b c =
+    let p = begins-passes s st packet buf b in
+    rw (step-is s st packet buf b Read c)
+    (moves-first s st (requestOf packet) buf (good-header s (p .good)) (ruly-of _ _ (p .ruly) .place) (room-is s st packet buf b Read c) bytes)
+
+block-stored : (s : List ℕ) (st : State) (packet buf : List ℕ) → Begins s st packet buf → requestOf packet .command ≡ Write
+    → (j : ℕ) → j < blocksOf (packetStep s st packet buf)
+    → IsBlock (packetStep s st packet buf .image) (st .position + j) (part buf (j * fieldsOf s .size) (fieldsOf s .size))
+unfolding workOf neededBy
+block-stored s st packet buf b c j n =
+    let p = begins-passes s st packet buf b in
+    let e = step-is s st packet buf b Write c in
+    rw e (written s st (requestOf packet) buf (good-header s (p .good)) (ruly-of _ _ (p .ruly) .place) (room-is s st packet buf b Write c) j (rw e at n))
+
+pub reads-back : ReadsBack
+reads-back s st packet buf b c j n s' st' l =
+    let w = later-block (st .position + j) _ l (block-stored s st packet buf b c j n) in (
+      w,
+      λ packet' buf' b' c' k m e.
+          let r = read-gives s' st' packet' buf' b' c' k m in
+          sym (r .same) ∙ ap (λ (i : ℕ). blockAt s' (fieldsOf s' .size) (fieldsOf s' .blocks) i) e ∙ w .same,
+    )

@@ -1,0 +1,93 @@
+-- The demands on the packet drive, one named type each; proofs/ proves them.
+-- Assumes nothing.
+use Prim.Native.Nat.{ℕ, _+_, _*_, _≤_, _<_}
+use mathlib.Core.Bool.{true}
+use mathlib.Core.List.{List}
+use mathlib.Core.Logic.{_↔_}
+use mathlib.Core.Path.{_≡_}
+use lib.ListN.{length}
+use Rattle.numbers.specs.Over.{part}
+use Rattle.image.specs.Header.{fieldsOf, keepsHeaderRules, withRecorded}
+use Rattle.opcodes.specs.declared.Command.the-variants.{Read, Write}
+use Rattle.stream_parts.specs.declared.state.Outcome.{Outcome}
+use Rattle.stream_parts.specs.declared.state.State.{State}
+use Rattle.stream_parts.specs.Answers.{done, notTwelveBytes}
+use Rattle.stream.specs.Packet.{packetLength, packetStep}
+use Rattle.stream_parts.specs.Requests.{requestOf}
+use Rattle.stream_parts.specs.States.{freshState, changedState, keepsRecordRules}
+use Rattle.stream_laws.specs.Plates.{every, plates}
+use Rattle.stream_laws.specs.Words.{numberOf, blocksOf, stateOf, residueOf, Refusal, Due, Begins, Moves, IsBlock, EveryReadGives, Kept}
+use Rattle.stream_laws.specs.History.{Later}
+
+-- "1: packet is not 12 bytes", whatever the image, the record and the buffer; nothing changes.
+abbrev pub CutPacket : Type 0
+CutPacket =
+    (s : List ℕ) (st : State) (packet buf : List ℕ) → (length packet ≡ packetLength → ⊥)
+    → (numberOf (packetStep s st packet buf) ≡ notTwelveBytes) × Refusal s st buf (packetStep s st packet buf)
+
+-- "A refused call gives its number, and image, buffers and record are then as they were."
+abbrev pub RefusedKeeps : Type 0
+RefusedKeeps =
+    (s : List ℕ) (st : State) (packet buf : List ℕ) → (numberOf (packetStep s st packet buf) ≡ 0 → ⊥)
+    → Refusal s st buf (packetStep s st packet buf)
+
+-- "Given exactly when": every packet is given the one number that 01's table has for it.
+abbrev pub NumberExactly : Type 0
+NumberExactly = (s : List ℕ) (st : State) (packet buf : List ℕ) (n : ℕ) → (numberOf (packetStep s st packet buf) ≡ n) ↔ Due s st packet buf n
+
+-- "For every read or write that begins, blocks moved plus residue equal blocks asked."
+abbrev pub MovedPlusResidue : Type 0
+MovedPlusResidue =
+    (s : List ℕ) (st : State) (packet buf : List ℕ) → Begins s st packet buf → Moves (requestOf packet .command)
+    → blocksOf (packetStep s st packet buf) + residueOf (stateOf (packetStep s st packet buf) .sense) ≡ requestOf packet .count
+
+-- "Prove that any two outcomes allowed by it coincide": what the promises of `packet`, `fresh` and `changed` allow.
+abbrev pub Settled : Type 0
+Settled =
+    ((s : List ℕ) (st : State) (packet buf : List ℕ) (r r' : Outcome) (image image' buf' buf'' : List ℕ)
+    → done r image buf' ≡ packetStep s st packet buf → done r' image' buf'' ≡ packetStep s st packet buf
+    → (r ≡ r') × (image ≡ image') × (buf' ≡ buf''))
+    × ((r r' : State) → r ≡ freshState → r' ≡ freshState → r ≡ r')
+    × ((st r r' : State) → r ≡ changedState st → r' ≡ changedState st → r ≡ r')
+
+-- What an accepted packet leaves is again accepted: the image keeps the header rules, with the same header but U, and the record keeps rule 3 for it.
+abbrev pub StaysGood : Type 0
+StaysGood =
+    (s : List ℕ) (st : State) (packet buf : List ℕ) → numberOf (packetStep s st packet buf) ≡ 0
+    → (keepsHeaderRules (packetStep s st packet buf .image) ≡ true)
+    × (fieldsOf (packetStep s st packet buf .image) ≡ withRecorded (fieldsOf s) (fieldsOf (packetStep s st packet buf .image) .recorded))
+    × (keepsRecordRules (fieldsOf (packetStep s st packet buf .image)) (stateOf (packetStep s st packet buf)) ≡ true)
+
+-- "bytes beyond the transfer stay", in the buffer and in the image.
+abbrev pub BeyondKept : Type 0
+BeyondKept =
+    (s : List ℕ) (st : State) (packet buf : List ℕ) → numberOf (packetStep s st packet buf) ≡ 0
+    → Kept s st packet buf (packetStep s st packet buf)
+
+-- "Data: copied, P + 1": each block that a READ moves is a data block of the image, and stands whole in the buffer.
+abbrev pub ReadGives : Type 0
+ReadGives =
+    (s : List ℕ) (st : State) (packet buf : List ℕ) → Begins s st packet buf → requestOf packet .command ≡ Read
+    → (k : ℕ) → k < blocksOf (packetStep s st packet buf)
+    → IsBlock s (st .position + k) (part (packetStep s st packet buf .buf) (k * fieldsOf s .size) (fieldsOf s .size))
+
+-- The same from the other side: a READ of one block or more that begins at a data block moves it.
+abbrev pub ReadMoves : Type 0
+ReadMoves =
+    (s : List ℕ) (st : State) (packet buf bytes : List ℕ) → Begins s st packet buf → requestOf packet .command ≡ Read
+    → IsBlock s (st .position) bytes → 1 ≤ requestOf packet .count
+    → 1 ≤ blocksOf (packetStep s st packet buf)
+
+-- "A written block reads back the same until something is stored at or before its place": block j of a WRITE is element P + j with its bytes through
+-- every later history, and every READ that moves it gives these bytes.
+abbrev pub ReadsBack : Type 0
+ReadsBack =
+    (s : List ℕ) (st : State) (packet buf : List ℕ) → Begins s st packet buf → requestOf packet .command ≡ Write
+    → (j : ℕ) → j < blocksOf (packetStep s st packet buf)
+    → (s' : List ℕ) (st' : State) → Later (st .position + j) (packetStep s st packet buf .image) (stateOf (packetStep s st packet buf)) s' st'
+    → IsBlock s' (st .position + j) (part buf (j * fieldsOf s .size) (fieldsOf s .size))
+    × EveryReadGives s' st' (st .position + j) (part buf (j * fieldsOf s .size) (fieldsOf s .size))
+
+-- 01: "A small set is proved together as one table (*)"
+abbrev pub PlatesPrint : Type 0
+PlatesPrint = every plates ≡ true

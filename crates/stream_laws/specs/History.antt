@@ -1,0 +1,24 @@
+-- What may happen to an image after a block was stored, as long as nothing is stored at or below its place.
+-- Assumes nothing.
+use Prim.Native.Nat.{ℕ, _≤_}
+use mathlib.Core.Bool.{true}
+use mathlib.Core.List.{List}
+use mathlib.Core.Path.{_≡_}
+use Rattle.stream_parts.specs.declared.state.State.{State}
+use Rattle.stream.specs.Packet.{packetStep}
+use Rattle.stream_laws.specs.Words.{stores, blocksOf, stateOf}
+
+-- this packet is a WRITE or WRITE FILEMARK that stores elements from a place at or below i on
+pub record StoresUpTo (i : ℕ) (s : List ℕ) (st : State) (packet buf : List ℕ) : Type 0 where
+  pub a-store : stores packet ≡ true
+  pub some : 1 ≤ blocksOf (packetStep s st packet buf)
+  pub from : st .position ≤ i
+
+-- from the image s and the record st, by any packets with any buffers, none of which stores at or below place i
+pub data Later (i : ℕ) (s : List ℕ) (st : State) : List ℕ → State → Type 0 where
+  at-once : Later i s st s st
+  -- one more packet
+  asked : {s' : List ℕ} {st' : State} (packet buf : List ℕ) → Later i s st s' st' → (StoresUpTo i s' st' packet buf → ⊥)
+      → Later i s st (packetStep s' st' packet buf .image) (stateOf (packetStep s' st' packet buf))
+  -- the record is replaced: by `changedState` where the cartridge is changed, by `freshState`, or by what packets to other cartridges left
+  replaced : {s' : List ℕ} {st' : State} (st'' : State) → Later i s st s' st' → Later i s st s' st''

@@ -1,0 +1,4 @@
+pub mod Words
+pub mod History
+pub mod Demands
+pub mod Plates
