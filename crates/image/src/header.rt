@@ -4,7 +4,7 @@ ghost use Prim.Native.Nat.{_*_, _^_, _≤_, _<_};
 ghost use lib.ListN.{length};
 ghost use Rattle.numbers.specs.Member.{isIn};
 ghost use Rattle.numbers.specs.RuleList.{allHold};
-ghost use Rattle.image.specs.Header.{blockSizes, fieldsOf, fixedBytes, fieldRanges, placeRules, headerOf, refusalOf};
+ghost use Rattle.image.specs.Header.{blockSizes, fieldsOf, fixedBytes, fieldRanges, placeRules, headerOf};
 use numbers::counts::count2;
 use numbers::counts::count4;
 
@@ -28,8 +28,6 @@ pub enum Judged {
 const HEADER_LENGTH: usize = 32;
 
 const MOST_ELEMENTS: usize = 65535;
-
-const BROKEN_IMAGE: u8 = 2;
 
 // Elements and bytes of a block within their bounds make at most 67,107,840 bytes: more than 16 bits, and no overflow.
 pub fn span(elements: usize, size: usize) -> usize
@@ -133,14 +131,4 @@ pub fn header_of(image: &[u8]) -> Judged
         }
     }
     Judged::Broken
-}
-
-// The refusal number that the finding gives: 2, or 0 for none.
-pub fn refusal_of(found: Judged) -> u8
-    ensures { λ r. ⌜ r ≡ refusalOf found ⌝ }
-{
-    match found {
-        Judged::Broken => BROKEN_IMAGE,
-        Judged::Good(_) => 0,
-    }
 }

@@ -8,7 +8,7 @@ use Rattle.numbers.specs.Choice.{if_then_else_, _≡ᵇ_}
 use Rattle.image.specs.declared.header.Header.{Header}
 use Rattle.image.specs.declared.header.Judged.{Judged}
 use Rattle.image.specs.declared.header.Judged.the-variants.{Good, Broken}
-use Rattle.image.specs.Header.{headerOf, brokenImage}
+use Rattle.image.specs.Header.{headerOf, refusalOf}
 use Rattle.stream_parts.specs.declared.requests.Request.{Request}
 use Rattle.stream_parts.specs.declared.state.State.{State}
 use Rattle.stream_parts.specs.declared.state.Verdict.{Verdict}
@@ -31,7 +31,7 @@ unfoldable pub decided : List ℕ → Header → State → Request → List ℕ 
 decided s h st q buf = carriedOut (verdictOf h st q (length buf)) s h st q buf
 
 unfoldable pub judged : Judged → List ℕ → State → List ℕ → List ℕ → Step
-judged Broken s st packet buf = done (refused st brokenImage) s buf
+judged Broken s st packet buf = done (refused st (refusalOf Broken)) s buf
 judged (Good h) s st packet buf =
     if not (keepsRecordRules h st) then done (refused st brokenRecord) s buf else
     decided s h st (requestOf packet) buf
