@@ -1,27 +1,27 @@
 # Skepcottage drive card. `make demo` shows the card at work; `make test` is the gate.
 
-.PHONY: demo test bench fuzz archive host clean
+.PHONY: demo test bench fuzz clean
+
+SHELL := /bin/bash
+HOST_ENV := . scripts/host-env.sh
 
 # how many calls `make fuzz` compares
 N ?= 10000000
 
-demo: host
-	scripts/demo.sh
+demo: target/staticlib/libtapecard.a
+	$(HOST_ENV) && (cd host && cargo build --release --offline --quiet) && scripts/demo.sh
 
 test:
 	.ci/run
 
-bench: archive
-	cd host && cargo run --release --offline --quiet -p bench
+bench: target/staticlib/libtapecard.a
+	$(HOST_ENV) && cd host && cargo run --release --offline --quiet -p bench
 
-fuzz: archive
-	cd host && TAPECARD_CALLS=$(N) cargo test --release --offline -p compare -- --nocapture
+fuzz: target/staticlib/libtapecard.a
+	$(HOST_ENV) && cd host && TAPECARD_CALLS=$(N) cargo test --release --offline -p compare --test random -- --nocapture
 
-archive:
+target/staticlib/libtapecard.a: crates.txt $(shell find crates -path '*/must-fail' -prune -o -type f -print)
 	rt staticlib tapecard
-
-host: archive
-	cd host && cargo build --release --offline --quiet
 
 clean:
 	rm -rf target host/target

@@ -1,0 +1,81 @@
+-- The ways out of the calls.
+-- Assumes nothing.
+use mathlib.Core.Path.{_≡_}
+use mathlib.Core.Bool.{Bool}
+use mathlib.Core.List.{List}
+use Prim.Native.Nat.{ℕ}
+use borrow.Author.Tests.{eq-eqb, ne-eqb}
+use Rattle.stream_parts.specs.declared.state.Outcome.{Outcome}
+use Rattle.stream_parts.specs.declared.state.State.{State}
+use Rattle.stream_parts.specs.Answers.{done}
+use Rattle.stream_parts.specs.States.{freshState, changedState}
+use Rattle.stream.specs.Packet.{packetStep}
+use Rattle.pulse.specs.declared.calls.Step.{Step}
+use Rattle.pulse.specs.declared.calls.Waited.{Waited}
+use Rattle.pulse.specs.declared.drive.Drive.{Drive}
+use Rattle.pulse.specs.Drives.{powerOn}
+use Rattle.pulse.specs.Calls.{trainCall, tickCall, insertCall, removeCall, waitCall}
+use Rattle.pulse_parts.specs.declared.cartridge.Cartridge.{Cartridge}
+use Rattle.tapecard.specs.PacketRecord.{decodeState, encodeState, encodeAnswer}
+use Rattle.tapecard.specs.PacketCalls.{packetCard, packetFresh, packetChange, packetLeft, packetCall}
+use Rattle.tapecard.specs.PulseRecord.{decodeDrive, encodeDrive, encodeTold, describedCartridge, describedPlace}
+use Rattle.tapecard.specs.PulseCalls.{PulseCard, pulseCard, pulseLeft, pulsePowerOn, pulseTrain, pulseTick, pulseInsert, pulseRemove, pulseWait}
+
+-- ---- the packet drive
+
+pub fresh-left : (new : List ℕ) (st : State) → st ≡ freshState → new ≡ encodeState st → new ≡ packetFresh
+unfolding packetFresh
+fresh-left new st q e = rw (e, q)
+
+pub change-left : (s new : List ℕ) (old st : State) → old ≡ decodeState s → st ≡ changedState old → new ≡ encodeState st → new ≡ packetChange s
+unfolding packetChange
+change-left s new old st q p e = rw (e, p, q)
+
+module _ (s image packet buf : List ℕ) (st : State) (o : Outcome) (image' buf' answer : List ℕ)
+    (q : st ≡ decodeState s) (e : done o image' buf' ≡ packetStep image st packet buf) (w : answer ≡ encodeAnswer (o .answer)) where
+  pub packet-kept : (o .answer .number ≡ 0 → ⊥) → packetCard s image' buf' answer ≡ packetCall s image packet buf
+  unfolding packetCall packetLeft
+  packet-kept n = rw (w, ← q, ← e, ne-eqb _ _ n)
+
+  pub packet-written : (new : List ℕ) → o .answer .number ≡ 0 → new ≡ encodeState (o .state) → packetCard new image' buf' answer ≡ packetCall s image packet buf
+  unfolding packetCall packetLeft
+  packet-written new n f = rw (f, w, ← q, ← e, n)
+
+-- ---- the pulse drive
+
+pub power-left : (new : List ℕ) (d : Drive) (vendor rom : ℕ) → d ≡ powerOn vendor rom → new ≡ encodeDrive d → new ≡ pulsePowerOn vendor rom
+unfolding pulsePowerOn
+power-left new d vendor rom q e = rw (e, q)
+
+module _ (s answer : List ℕ) (number : ℕ) (level : Bool) (ticks : ℕ) (d : Drive) (w : answer ≡ encodeTold number level ticks) where
+  pub pulse-kept : (number ≡ 0 → ⊥) → pulseCard s answer ≡ pulseLeft s number level ticks d
+  unfolding pulseLeft
+  pulse-kept n = rw (w, ne-eqb _ _ n)
+
+  pub pulse-written : (new : List ℕ) → number ≡ 0 → new ≡ encodeDrive d → pulseCard new answer ≡ pulseLeft s number level ticks d
+  unfolding pulseLeft
+  pulse-written new n f = rw (f, w, eq-eqb _ _ n)
+
+module _ (s : List ℕ) (d : Drive) (x : Step) (left : PulseCard) (q : d ≡ decodeDrive s) (l : left ≡ pulseLeft s (x .number) (x .level) 0 (x .drive)) where
+  pub train-left : (n : ℕ) → x ≡ trainCall d n → left ≡ pulseTrain s n
+  unfolding pulseTrain
+  train-left n e = rw (l, e, q)
+
+  pub tick-left : x ≡ tickCall d → left ≡ pulseTick s
+  unfolding pulseTick
+  tick-left e = rw (l, e, q)
+
+  pub insert-left : (bytes : List ℕ) (cart : Cartridge) (place : ℕ) → cart ≡ describedCartridge bytes → place ≡ describedPlace bytes → x ≡ insertCall d cart place → left ≡ pulseInsert s bytes
+  unfolding pulseInsert
+  insert-left bytes cart place c p e = rw (l, e, c, p, q)
+
+  pub remove-left : x ≡ removeCall d → left ≡ pulseRemove s
+  unfolding pulseRemove
+  remove-left e = rw (l, e, q)
+
+pub wait-left : (s : List ℕ) (d : Drive) (x : Waited) (left : PulseCard) (limit : ℕ) → d ≡ decodeDrive s → x ≡ waitCall d limit
+    → left ≡ pulseLeft s (x .number) (x .level) (x .ticks) (x .drive) → left ≡ pulseWait s limit
+unfolding pulseWait
+wait-left s d x left limit q e l = rw (l, e, q)
+
+pub ruleset ways = (fresh-left, change-left, packet-kept, packet-written, power-left, pulse-kept, pulse-written, train-left, tick-left, insert-left, remove-left, wait-left)

@@ -1,0 +1,51 @@
+-- `packet_calls::tapecard_packet` meets its contract.
+-- Assumes nothing.
+use Rattle.tapecard.proofs.CallLaws.{ways}
+use borrow.Author.Needs.{needs}
+use Rattle.tapecard.proofs.packet_calls.tapecard_packet.Statement.{statement}
+use Rattle.tapecard.proofs.packet_calls.tapecard_packet.Tie as tie
+
+decode-state-requires : tie.Need-decode-state-requires
+decode-state-requires c κs = search needs
+
+packet-requires : tie.Need-packet-requires
+packet-requires c κs = search needs
+
+encode-answer-requires : tie.Need-encode-answer-requires
+encode-answer-requires c κs = search needs
+
+encode-state-requires : tie.Need-encode-state-requires
+encode-state-requires c κs = search needs
+
+same-length : tie.Need-same-length
+same-length c = search needs
+
+same-length-2 : tie.Need-same-length-2
+same-length-2 c = search needs
+
+returns : tie.Need-returns
+returns c = search ways
+
+same-length-3 : tie.Need-same-length-3
+same-length-3 c = search needs
+
+same-length-4 : tie.Need-same-length-4
+same-length-4 c = search needs
+
+returns-2 : tie.Need-returns-2
+returns-2 c = search ways
+
+pub tapecard-packet-spec : {M : Type 1} → statement M
+tapecard-packet-spec =
+    tie.close
+    (tie.spec
+    decode-state-requires
+    packet-requires
+    encode-answer-requires
+    encode-state-requires
+    same-length
+    same-length-2
+    returns
+    same-length-3
+    same-length-4
+    returns-2)

@@ -1,0 +1,22 @@
+-- `pulse_calls::tapecard_pulse_train` meets its contract.
+-- Assumes nothing.
+use Rattle.tapecard.proofs.CallLaws.{ways}
+use borrow.Author.Needs.{needs}
+use Rattle.tapecard.proofs.pulse_calls.tapecard_pulse_train.Statement.{statement}
+use Rattle.tapecard.proofs.pulse_calls.tapecard_pulse_train.Tie as tie
+
+decode-drive-requires : tie.Need-decode-drive-requires
+decode-drive-requires c κs = search needs
+
+train-requires : tie.Need-train-requires
+train-requires c κs = search needs
+
+leave-requires : tie.Need-leave-requires
+leave-requires c κs = search needs
+
+returns : tie.Need-returns
+returns c = search ways
+
+pub tapecard-pulse-train-spec : {M : Type 1} → statement M
+tapecard-pulse-train-spec =
+    tie.close (tie.spec decode-drive-requires train-requires leave-requires returns)

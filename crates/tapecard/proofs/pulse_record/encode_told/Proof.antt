@@ -1,0 +1,29 @@
+-- `pulse_record::encode_told` meets its contract.
+-- Assumes nothing.
+use Rattle.tapecard.specs.PulseRecord.{encodeTold}
+use borrow.Author.Needs.{needs}
+use Rattle.tapecard.proofs.pulse_record.encode_told.Statement.{statement}
+use Rattle.tapecard.proofs.pulse_record.encode_told.Tie as tie
+
+weight-of-requires : tie.Need-weight-of-requires
+weight-of-requires c κs = search needs
+
+cast-t9 : tie.Need-cast-t9
+cast-t9 c = search needs
+
+cast-t11 : tie.Need-cast-t11
+cast-t11 c = search needs
+
+cast-t13 : tie.Need-cast-t13
+cast-t13 c = search needs
+
+cast-t15 : tie.Need-cast-t15
+cast-t15 c = search needs
+
+returns : tie.Need-returns
+unfolding encodeTold
+returns c = cc
+
+pub encode-told-spec : {M : Type 1} → statement M
+encode-told-spec =
+    tie.close (tie.spec weight-of-requires cast-t9 cast-t11 cast-t13 cast-t15 returns)

@@ -1,0 +1,32 @@
+-- `pulse_record::waiting_in` meets its contract.
+-- Assumes nothing.
+use Rattle.tapecard.specs.PulseRecord.{waitingIn}
+use borrow.Author.Needs.{needs}
+use Rattle.tapecard.proofs.pulse_record.waiting_in.Statement.{statement}
+use Rattle.tapecard.proofs.pulse_record.waiting_in.Tie as tie
+
+shared-slice-read-waiting-of : tie.Need-shared-slice-read-waiting-of
+shared-slice-read-waiting-of c = search needs
+
+shared-slice-read-waiting-of-2 : tie.Need-shared-slice-read-waiting-of-2
+shared-slice-read-waiting-of-2 c = search needs
+
+word-requires : tie.Need-word-requires
+word-requires c κs = search needs
+
+waiting-of-requires : tie.Need-waiting-of-requires
+waiting-of-requires c κs = search needs
+
+returns : tie.Need-returns
+unfolding waitingIn
+returns c = cc
+
+pub waiting-in-spec : {M : Type 1} → statement M
+waiting-in-spec =
+    tie.close
+    (tie.spec
+    shared-slice-read-waiting-of
+    shared-slice-read-waiting-of-2
+    word-requires
+    waiting-of-requires
+    returns)

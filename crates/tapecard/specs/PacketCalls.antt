@@ -1,0 +1,39 @@
+-- Everything that a call of the packet drive leaves.
+-- Assumes nothing.
+use Prim.Native.Nat.{ℕ}
+use mathlib.Core.List.{List}
+use Rattle.numbers.specs.Choice.{if_then_else_, _≡ᵇ_}
+use Rattle.stream_parts.specs.Answers.{Step}
+use Rattle.stream_parts.specs.States.{freshState, changedState}
+use Rattle.stream.specs.Packet.{packetStep}
+use Rattle.tapecard.specs.PacketRecord.{decodeState, encodeState, encodeAnswer}
+
+pub record PacketCard : Type 0 where
+  pub state : List ℕ
+  pub image : List ℕ
+  pub buf : List ℕ
+  pub answer : List ℕ
+
+abbrev pub packetCard : List ℕ → List ℕ → List ℕ → List ℕ → PacketCard
+packetCard state image buf answer = record { state = state; image = image; buf = buf; answer = answer }
+
+-- the record of `tapecard_fresh`, whatever it was
+unfoldable pub packetFresh : List ℕ
+packetFresh = encodeState freshState
+
+-- the record of `tapecard_change`
+unfoldable pub packetChange : List ℕ → List ℕ
+packetChange state = encodeState (changedState (decodeState state))
+
+-- "A refused call (number not 0) leaves the record's bytes .. exactly as they were"; "An accepted call writes the whole record in its canonical form."
+unfoldable pub packetLeft : List ℕ → Step → PacketCard
+packetLeft state x =
+    packetCard
+    (if x .out .answer .number ≡ᵇ 0 then encodeState (x .out .state) else state)
+    (x .image)
+    (x .buf)
+    (encodeAnswer (x .out .answer))
+
+-- all that `tapecard_packet` leaves: record, image, buffer, answer
+unfoldable pub packetCall : List ℕ → List ℕ → List ℕ → List ℕ → PacketCard
+packetCall state image packet buf = packetLeft state (packetStep image (decodeState state) packet buf)

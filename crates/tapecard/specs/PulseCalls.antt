@@ -1,0 +1,52 @@
+-- Everything that a call of the pulse drive leaves.
+-- Assumes nothing.
+use Prim.Native.Nat.{ℕ}
+use mathlib.Core.Bool.{Bool}
+use mathlib.Core.List.{List}
+use Rattle.numbers.specs.Choice.{if_then_else_, _≡ᵇ_}
+use Rattle.pulse.specs.declared.calls.Step.{Step}
+use Rattle.pulse.specs.declared.calls.Waited.{Waited}
+use Rattle.pulse.specs.declared.drive.Drive.{Drive}
+use Rattle.pulse.specs.Drives.{powerOn}
+use Rattle.pulse.specs.Calls.{trainCall, tickCall, insertCall, removeCall, waitCall}
+use Rattle.tapecard.specs.PulseRecord.{decodeDrive, encodeDrive, encodeTold, describedCartridge, describedPlace}
+
+pub record PulseCard : Type 0 where
+  pub state : List ℕ
+  pub answer : List ℕ
+
+abbrev pub pulseCard : List ℕ → List ℕ → PulseCard
+pulseCard state answer = record { state = state; answer = answer }
+
+-- "A refused call (number not 0) leaves the record's bytes .. exactly as they were"; "An accepted call writes the whole record in its canonical form."
+unfoldable pub pulseLeft : List ℕ → ℕ → Bool → ℕ → Drive → PulseCard
+pulseLeft state number level ticks drive =
+    pulseCard (if number ≡ᵇ 0 then encodeDrive drive else state) (encodeTold number level ticks)
+
+-- "4-7 ticks (0 but for the wait call)"
+abbrev pub stepLeft : List ℕ → Step → PulseCard
+stepLeft state x = pulseLeft state (x .number) (x .level) 0 (x .drive)
+
+abbrev pub waitedLeft : List ℕ → Waited → PulseCard
+waitedLeft state x = pulseLeft state (x .number) (x .level) (x .ticks) (x .drive)
+
+-- ---- all that each call leaves: record and answer
+
+-- the record of `tapecard_pulse_power_on`, whatever it was; it has no answer
+unfoldable pub pulsePowerOn : ℕ → ℕ → List ℕ
+pulsePowerOn vendor rom = encodeDrive (powerOn vendor rom)
+
+unfoldable pub pulseTrain : List ℕ → ℕ → PulseCard
+pulseTrain state pulses = stepLeft state (trainCall (decodeDrive state) pulses)
+
+unfoldable pub pulseTick : List ℕ → PulseCard
+pulseTick state = stepLeft state (tickCall (decodeDrive state))
+
+unfoldable pub pulseInsert : List ℕ → List ℕ → PulseCard
+pulseInsert state cartridge = stepLeft state (insertCall (decodeDrive state) (describedCartridge cartridge) (describedPlace cartridge))
+
+unfoldable pub pulseRemove : List ℕ → PulseCard
+pulseRemove state = stepLeft state (removeCall (decodeDrive state))
+
+unfoldable pub pulseWait : List ℕ → ℕ → PulseCard
+pulseWait state limit = waitedLeft state (waitCall (decodeDrive state) limit)

@@ -1,0 +1,41 @@
+// The calls of the packet drive.
+ghost use mathlib.Core.Path.{_≡_};
+ghost use Rattle.tapecard.specs.PacketCalls.{packetCard, packetFresh, packetChange, packetCall};
+use crate::packet_record::decode_state;
+use crate::packet_record::encode_answer;
+use crate::packet_record::encode_state;
+
+#[no_mangle]
+pub extern "C" fn tapecard_fresh(state: &mut [u8; 16])
+    ensures { λ _. ⌜ now (state .exit) ≡ packetFresh ⌝ }
+{
+    *state = encode_state(stream::fresh());
+}
+
+#[no_mangle]
+pub extern "C" fn tapecard_change(state: &mut [u8; 16])
+    ensures { λ _. ⌜ now (state .exit) ≡ packetChange (now (state .entry)) ⌝ }
+{
+    let before = decode_state(state);
+    *state = encode_state(stream::changed(before));
+}
+
+#[no_mangle]
+pub extern "C" fn tapecard_packet(
+    state: &mut [u8; 16],
+    image: &mut [u8],
+    packet: &[u8],
+    buf: &mut [u8],
+    answer: &mut [u8; 16],
+)
+    ensures { λ _. ⌜ packetCard (now (state .exit)) (now (image .exit)) (now (buf .exit)) (now (answer .exit)) ≡ packetCall (now (state .entry)) (now (image .entry)) (now (packet .entry)) (now (buf .entry)) ⌝ }
+{
+    let before = decode_state(state);
+    let outcome = stream::packet(image, before, packet, buf);
+    let told = outcome.answer;
+    let after = outcome.state;
+    *answer = encode_answer(told);
+    if told.number == 0 {
+        *state = encode_state(after);
+    }
+}

@@ -1,0 +1,93 @@
+// The calls of the pulse drive.
+ghost use mathlib.Core.Path.{_≡_};
+ghost use Rattle.tapecard.specs.PulseCalls.{pulseCard, pulseLeft, pulsePowerOn, pulseTrain, pulseTick, pulseInsert, pulseRemove, pulseWait};
+use crate::pulse_record::decode_drive;
+use crate::pulse_record::described_cartridge;
+use crate::pulse_record::described_place;
+use crate::pulse_record::encode_drive;
+use crate::pulse_record::encode_told;
+use pulse::Drive;
+
+const NO_TICKS: u32 = 0;
+
+// A refused call leaves the record as it was; the answer is always written.
+fn leave(
+    state: &mut [u8; 32],
+    answer: &mut [u8; 8],
+    number: u8,
+    level: bool,
+    ticks: u32,
+    after: Drive,
+)
+    ensures { λ _. ⌜ pulseCard (now (state .exit)) (now (answer .exit)) ≡ pulseLeft (now (state .entry)) number level ticks after ⌝ }
+{
+    *answer = encode_told(number, level, ticks);
+    if number == 0 {
+        *state = encode_drive(after);
+    }
+}
+
+#[no_mangle]
+pub extern "C" fn tapecard_pulse_power_on(state: &mut [u8; 32], vendor: u16, rom: u8)
+    ensures { λ _. ⌜ now (state .exit) ≡ pulsePowerOn vendor rom ⌝ }
+{
+    *state = encode_drive(Drive::power_on(vendor, rom));
+}
+
+#[no_mangle]
+pub extern "C" fn tapecard_pulse_train(state: &mut [u8; 32], pulses: u16, answer: &mut [u8; 8])
+    ensures { λ _. ⌜ pulseCard (now (state .exit)) (now (answer .exit)) ≡ pulseTrain (now (state .entry)) pulses ⌝ }
+{
+    let step = decode_drive(state).train(pulses);
+    let after = step.drive;
+    leave(state, answer, step.number, step.level, NO_TICKS, after);
+}
+
+#[no_mangle]
+pub extern "C" fn tapecard_pulse_tick(state: &mut [u8; 32], answer: &mut [u8; 8])
+    ensures { λ _. ⌜ pulseCard (now (state .exit)) (now (answer .exit)) ≡ pulseTick (now (state .entry)) ⌝ }
+{
+    let step = decode_drive(state).tick();
+    let after = step.drive;
+    leave(state, answer, step.number, step.level, NO_TICKS, after);
+}
+
+#[no_mangle]
+pub extern "C" fn tapecard_pulse_insert(
+    state: &mut [u8; 32],
+    cartridge: &[u8; 8],
+    answer: &mut [u8; 8],
+)
+    ensures { λ _. ⌜ pulseCard (now (state .exit)) (now (answer .exit)) ≡ pulseInsert (now (state .entry)) (now (cartridge .entry)) ⌝ }
+{
+    let described = described_cartridge(cartridge);
+    let place = described_place(cartridge);
+    let step = decode_drive(state).insert(described, place);
+    let after = step.drive;
+    leave(state, answer, step.number, step.level, NO_TICKS, after);
+}
+
+#[no_mangle]
+pub extern "C" fn tapecard_pulse_remove(state: &mut [u8; 32], answer: &mut [u8; 8])
+    ensures { λ _. ⌜ pulseCard (now (state .exit)) (now (answer .exit)) ≡ pulseRemove (now (state .entry)) ⌝ }
+{
+    let step = decode_drive(state).remove();
+    let after = step.drive;
+    leave(state, answer, step.number, step.level, NO_TICKS, after);
+}
+
+#[no_mangle]
+pub extern "C" fn tapecard_pulse_wait(state: &mut [u8; 32], limit: u32, answer: &mut [u8; 8])
+    ensures { λ _. ⌜ pulseCard (now (state .exit)) (now (answer .exit)) ≡ pulseWait (now (state .entry)) limit ⌝ }
+{
+    let waited = decode_drive(state).wait(limit);
+    let after = waited.drive;
+    leave(
+        state,
+        answer,
+        waited.number,
+        waited.level,
+        waited.ticks,
+        after,
+    );
+}

@@ -1,0 +1,214 @@
+/*
+ * The drive card from C: two blocks and a filemark go onto a cartridge in memory and come back, a packet that was cut is
+ * refused, and a pulse drive is recovered by 46 trains.
+ *
+ *     cc -std=c99 -Wall -Wextra -Werror -Iinclude examples/c/card.c target/staticlib/libtapecard.a -o card
+ */
+#include <stdio.h>
+#include <string.h>
+
+#include "tapecard.h"
+
+enum {
+    BLOCK_SIZE = 512,
+    CAPACITY = 4,
+    KINDS_AT = TAPECARD_IMAGE_HEADER_LENGTH,
+    BLOCKS_AT = KINDS_AT + CAPACITY,
+    IMAGE_LENGTH = BLOCKS_AT + CAPACITY * BLOCK_SIZE
+};
+
+/* Lent where a packet transfers nothing. */
+static uint8_t no_data[1];
+
+/* A packet drive with the cartridge that is in it. */
+struct packet_drive {
+    uint8_t record[TAPECARD_PACKET_RECORD_LENGTH];
+    uint8_t image[IMAGE_LENGTH];
+    uint8_t answer[TAPECARD_PACKET_ANSWER_LENGTH];
+};
+
+static void put_number(uint8_t *at, int length, uint32_t value)
+{
+    while (length > 0) {
+        length--;
+        at[length] = (uint8_t)(value & 0xFF);
+        value >>= 8;
+    }
+}
+
+static unsigned long number_at(const uint8_t *at, int length)
+{
+    unsigned long value = 0;
+    int i;
+
+    for (i = 0; i < length; i++)
+        value = value * 256 + at[i];
+    return value;
+}
+
+static const char *yes_or_no(int truth)
+{
+    return truth ? "yes" : "no";
+}
+
+static void make_blank_cartridge(uint8_t image[IMAGE_LENGTH])
+{
+    memset(image, 0, IMAGE_LENGTH);
+    put_number(image + TAPECARD_IMAGE_LENGTH_AT, 2, TAPECARD_IMAGE_HEADER_LENGTH);
+    put_number(image + TAPECARD_IMAGE_BLOCK_SIZE_AT, 2, BLOCK_SIZE);
+    put_number(image + TAPECARD_IMAGE_CAPACITY_AT, 4, CAPACITY);
+    put_number(image + TAPECARD_IMAGE_KINDS_AT, 4, KINDS_AT);
+    put_number(image + TAPECARD_IMAGE_BLOCKS_AT, 4, BLOCKS_AT);
+}
+
+static void print_answer(const char *name, const struct packet_drive *drive)
+{
+    const uint8_t *record = drive->record;
+    const uint8_t *answer = drive->answer;
+
+    printf("%-18s", name);
+    if (answer[TAPECARD_ANSWER_NUMBER_AT] != TAPECARD_ACCEPTED) {
+        printf("refused, number %u\n", (unsigned)answer[TAPECARD_ANSWER_NUMBER_AT]);
+        return;
+    }
+    printf("%s, ", answer[TAPECARD_ANSWER_STATUS_AT] == TAPECARD_STATUS_GOOD ? "GOOD" : "CHECK CONDITION");
+    printf("blocks %lu, ", number_at(answer + TAPECARD_ANSWER_BLOCKS_AT, 4));
+    printf("bytes %lu, ", number_at(answer + TAPECARD_ANSWER_BYTES_AT, 4));
+    printf("position %lu", number_at(record + TAPECARD_POSITION_AT, 4));
+    if (answer[TAPECARD_ANSWER_STATUS_AT] != TAPECARD_STATUS_GOOD)
+        printf(", sense %X/%02X/%02X", (unsigned)record[TAPECARD_SENSE_KEY_AT], (unsigned)record[TAPECARD_SENSE_ASC_AT],
+               (unsigned)record[TAPECARD_SENSE_ASCQ_AT]);
+    if (record[TAPECARD_SENSE_FLAGS_AT] & TAPECARD_SENSE_VALID)
+        printf(", residue %lu", number_at(record + TAPECARD_INFORMATION_AT, 4));
+    printf("\n");
+}
+
+/* A packet with a count in bytes 2-4 and a lent buffer. */
+static void send_packet(struct packet_drive *drive, const char *name, uint8_t opcode, uint32_t count, uint8_t *data,
+                        size_t data_length)
+{
+    uint8_t packet[TAPECARD_PACKET_LENGTH] = {0};
+
+    packet[0] = opcode;
+    packet[1] = 1;
+    put_number(packet + 2, 3, count);
+    tapecard_packet(drive->record, drive->image, sizeof drive->image, packet, sizeof packet, data, data_length,
+                    drive->answer);
+    print_answer(name, drive);
+}
+
+static void write_and_read_back(struct packet_drive *drive)
+{
+    static const char lines[2][32] = {"The quick brown fox", "jumps over the lazy dog"};
+    uint8_t written[2 * BLOCK_SIZE] = {0};
+    uint8_t read[3 * BLOCK_SIZE] = {0};
+
+    memcpy(written, lines[0], sizeof lines[0]);
+    memcpy(written + BLOCK_SIZE, lines[1], sizeof lines[1]);
+    send_packet(drive, "REWIND", TAPECARD_REWIND, 0, no_data, 0);
+    send_packet(drive, "WRITE 2", TAPECARD_WRITE, 2, written, sizeof written);
+    send_packet(drive, "WRITE FILEMARK 1", TAPECARD_WRITE_FILEMARK, 1, no_data, 0);
+    send_packet(drive, "REWIND", TAPECARD_REWIND, 0, no_data, 0);
+    send_packet(drive, "READ 3", TAPECARD_READ, 3, read, sizeof read);
+    printf("read: %s %s\n", (char *)read, (char *)read + BLOCK_SIZE);
+    printf("as written: %s\n", yes_or_no(memcmp(read, written, sizeof written) == 0));
+}
+
+static void send_cut_packet(struct packet_drive *drive)
+{
+    static const uint8_t cut[TAPECARD_PACKET_LENGTH - 1] = {TAPECARD_WRITE, 1, 0, 0, 1};
+    uint8_t data[BLOCK_SIZE] = {0};
+    const struct packet_drive before = *drive;
+    int same;
+
+    tapecard_packet(drive->record, drive->image, sizeof drive->image, cut, sizeof cut, data, sizeof data, drive->answer);
+    print_answer("11 bytes", drive);
+    same = memcmp(before.record, drive->record, sizeof before.record) == 0 &&
+           memcmp(before.image, drive->image, sizeof before.image) == 0;
+    printf("record and image as before: %s\n", yes_or_no(same));
+}
+
+static void use_packet_drive(void)
+{
+    struct packet_drive drive;
+
+    make_blank_cartridge(drive.image);
+    tapecard_fresh(drive.record);
+    printf("packet drive, a blank cartridge of %d elements\n", CAPACITY);
+    send_packet(&drive, "TEST UNIT READY", TAPECARD_TEST_UNIT_READY, 0, no_data, 0);
+    write_and_read_back(&drive);
+    send_cut_packet(&drive);
+}
+
+static int train(uint8_t *record, uint16_t pulses)
+{
+    uint8_t answer[TAPECARD_PULSE_ANSWER_LENGTH];
+
+    tapecard_pulse_train(record, pulses, answer);
+    return answer[TAPECARD_PULSE_ANSWER_LEVEL_AT];
+}
+
+/* Sends one train and then 2s, and prints the levels. Returns the trains sent. */
+static int print_levels(uint8_t *record, uint16_t first, int next_bits)
+{
+    int i;
+
+    printf("%2u:", (unsigned)first);
+    printf(" %d", train(record, first));
+    for (i = 0; i < next_bits; i++)
+        printf(" %d", train(record, 2));
+    printf("\n");
+    return 1 + next_bits;
+}
+
+static void print_pulse_drive(const char *when, const uint8_t *record)
+{
+    const uint8_t flags = record[TAPECARD_PULSE_FLAGS_AT];
+
+    printf("%s: error %u, place %lu, %s, new mark %s, referenced %s\n", when, (unsigned)record[TAPECARD_PULSE_ERROR_AT],
+           number_at(record + TAPECARD_PULSE_PLACE_AT, 2),
+           record[TAPECARD_PULSE_MOTION_AT] == TAPECARD_PULSE_STILL ? "ready" : "moving",
+           yes_or_no(flags & TAPECARD_PULSE_NEW_MARK), yes_or_no(flags & TAPECARD_PULSE_REFERENCED));
+}
+
+static void put_cartridge_in(uint8_t *record)
+{
+    uint8_t cartridge[TAPECARD_CARTRIDGE_LENGTH] = {0};
+    uint8_t answer[TAPECARD_PULSE_ANSWER_LENGTH];
+
+    put_number(cartridge + TAPECARD_CARTRIDGE_SEGMENTS_AT, 2, 207);
+    cartridge[TAPECARD_CARTRIDGE_TRACKS_AT] = 28;
+    put_number(cartridge + TAPECARD_CARTRIDGE_PLACE_AT, 2, 50);
+    cartridge[TAPECARD_CARTRIDGE_FLAGS_AT] = TAPECARD_CARTRIDGE_BURST;
+    cartridge[TAPECARD_CARTRIDGE_FORMAT_AT] = 2;
+    cartridge[TAPECARD_CARTRIDGE_TYPE_AT] = 1;
+    tapecard_pulse_insert(record, cartridge, answer);
+    print_pulse_drive("cartridge in", record);
+    tapecard_pulse_wait(record, 4095, answer);
+    printf("loaded after %lu ticks\n", number_at(answer + TAPECARD_PULSE_ANSWER_TICKS_AT, 4));
+}
+
+static void recover_pulse_drive(void)
+{
+    uint8_t record[TAPECARD_PULSE_RECORD_LENGTH];
+    int trains = 0;
+
+    tapecard_pulse_power_on(record, 0x0157, 0x17);
+    printf("pulse drive\n");
+    put_cartridge_in(record);
+    train(record, 33); /* a report that is left open */
+    train(record, 2);
+    print_pulse_drive("before", record);
+    trains += print_levels(record, 2, 17);
+    trains += print_levels(record, 6, 9);
+    trains += print_levels(record, 7, 17);
+    print_pulse_drive("after", record);
+    printf("trains: %d\n", trains);
+}
+
+int main(void)
+{
+    use_packet_drive();
+    recover_pulse_drive();
+    return 0;
+}

@@ -1,0 +1,167 @@
+//! A READ written by hand in Rust: the same bytes in and out and the same checks in the same order as the interface has for this
+//! packet, and a copy block by block. It answers READ alone; every other packet is an unknown command here.
+
+const DATA: u8 = 1;
+const FILEMARK: u8 = 2;
+const SPEEDS: [u16; 5] = [0, 62, 125, 250, 500];
+const READ: u8 = 0x08;
+const CHECK_CONDITION: u8 = 2;
+
+const FILEMARK_DETECTED: [u8; 3] = [0x0, 0x00, 0x01];
+const UNREADABLE: [u8; 3] = [0x3, 0x11, 0x00];
+const END_OF_DATA: [u8; 3] = [0x8, 0x00, 0x05];
+const UNKNOWN_COMMAND: [u8; 3] = [0x5, 0x20, 0x00];
+const INVALID_FIELD: [u8; 3] = [0x5, 0x24, 0x00];
+const NOT_LOADED: [u8; 3] = [0x2, 0x3A, 0x00];
+const MEDIUM_CHANGED: [u8; 3] = [0x6, 0x28, 0x00];
+const RESET: [u8; 3] = [0x6, 0x29, 0x00];
+
+struct Header {
+    block_size: usize,
+    recorded: usize,
+    kinds_at: usize,
+    blocks_at: usize,
+}
+
+/// The call of the interface, for READ.
+pub fn packet(
+    record: &mut [u8; 16],
+    image: &[u8],
+    packet: &[u8],
+    data: &mut [u8],
+    answer: &mut [u8; 16],
+) {
+    *answer = [0; 16];
+    if packet.len() != 12 {
+        answer[0] = 1;
+        return;
+    }
+    let Some(header) = read_header(image) else {
+        answer[0] = 2;
+        return;
+    };
+    let position = long(record, 0);
+    if position > header.recorded || !SPEEDS.contains(&word(record, 6)) || record[8] > 15 {
+        answer[0] = 3;
+        return;
+    }
+    if let Some(sense) = before_the_work(record, packet) {
+        record[5] = 0;
+        end(record, sense, false, 0);
+        answer[1] = CHECK_CONDITION;
+        return;
+    }
+    let count = long(&[0, packet[2], packet[3], packet[4]], 0);
+    if data.len() < count * header.block_size {
+        answer[0] = 4;
+        return;
+    }
+    let run = copy_blocks(image, &header, position, count, data);
+    finish(record, &run, count);
+    answer[1] = if run.stop.is_some() {
+        CHECK_CONDITION
+    } else {
+        0
+    };
+    answer[4..8].copy_from_slice(&(run.copied as u32).to_be_bytes());
+    answer[8..12].copy_from_slice(&((run.copied * header.block_size) as u32).to_be_bytes());
+}
+
+/// Attention, opcode, fields, not ready.
+fn before_the_work(record: &[u8; 16], packet: &[u8]) -> Option<[u8; 3]> {
+    match record[5] {
+        1 => return Some(MEDIUM_CHANGED),
+        2 => return Some(RESET),
+        _ => {}
+    }
+    if packet[0] != READ {
+        Some(UNKNOWN_COMMAND)
+    } else if packet[1] & 1 == 0 {
+        Some(INVALID_FIELD)
+    } else if record[4] & 1 == 0 {
+        Some(NOT_LOADED)
+    } else {
+        None
+    }
+}
+
+/// How far a READ came.
+struct Run {
+    position: usize,
+    copied: usize,
+    stop: Option<[u8; 3]>,
+}
+
+/// Copies up to `count` blocks from this position on.
+fn copy_blocks(image: &[u8], header: &Header, from: usize, count: usize, data: &mut [u8]) -> Run {
+    let size = header.block_size;
+    let mut run = Run {
+        position: from,
+        copied: 0,
+        stop: None,
+    };
+    while run.copied < count && run.stop.is_none() {
+        if run.position == header.recorded {
+            run.stop = Some(END_OF_DATA);
+            break;
+        }
+        let block = header.blocks_at + run.position * size;
+        match image[header.kinds_at + run.position] {
+            DATA => {
+                let room = &mut data[run.copied * size..(run.copied + 1) * size];
+                room.copy_from_slice(&image[block..block + size]);
+                run.copied += 1;
+            }
+            FILEMARK => run.stop = Some(FILEMARK_DETECTED),
+            _ => run.stop = Some(UNREADABLE),
+        }
+        run.position += 1;
+    }
+    run
+}
+
+fn finish(record: &mut [u8; 16], run: &Run, count: usize) {
+    record[0..4].copy_from_slice(&(run.position as u32).to_be_bytes());
+    match run.stop {
+        Some(sense) => end(record, sense, true, count - run.copied),
+        None => end(record, [0; 3], false, 0),
+    }
+}
+
+fn end(record: &mut [u8; 16], sense: [u8; 3], valid: bool, residue: usize) {
+    record[8..11].copy_from_slice(&sense);
+    record[11] = u8::from(valid) | u8::from(sense == FILEMARK_DETECTED) << 2;
+    record[12..16].copy_from_slice(&(residue as u32).to_be_bytes());
+}
+
+/// The header, where the image keeps its rules.
+fn read_header(image: &[u8]) -> Option<Header> {
+    if image.len() < 32 || word(image, 0) != 32 {
+        return None;
+    }
+    let header = Header {
+        block_size: word(image, 2).into(),
+        recorded: long(image, 8),
+        kinds_at: long(image, 12),
+        blocks_at: long(image, 16),
+    };
+    let capacity = long(image, 4);
+    let ranges = (header.block_size == 512 || header.block_size == 1024)
+        && (1..=65_535).contains(&capacity)
+        && header.recorded <= capacity
+        && image[20] <= 1
+        && usize::from(word(image, 22)) <= capacity
+        && image[24..32].iter().all(|b| *b == 0);
+    let places = header.kinds_at >= 32
+        && header.kinds_at + capacity <= header.blocks_at
+        && header.blocks_at + capacity * header.block_size <= image.len();
+    (ranges && places).then_some(header)
+}
+
+fn word(bytes: &[u8], at: usize) -> u16 {
+    u16::from_be_bytes([bytes[at], bytes[at + 1]])
+}
+
+fn long(bytes: &[u8], at: usize) -> usize {
+    u32::from_be_bytes([bytes[at], bytes[at + 1], bytes[at + 2], bytes[at + 3]]) as usize
+}

@@ -1,0 +1,138 @@
+//! READ of 64 blocks: the engine beside the function of `purpose`, five rounds after a warm-up, the two by turns.
+
+use std::hint::black_box;
+use std::time::{Duration, Instant};
+
+use tapecard::raw;
+
+use crate::purpose;
+use crate::tape::{self, BLOCK_SIZE, BLOCKS, READ, ROOM};
+
+const ROUNDS: usize = 5;
+const READS: usize = 5000;
+const WARMING_READS: usize = 500;
+
+type Call = fn(&mut [u8; 16], &mut [u8], &[u8], &mut [u8], &mut [u8; 16]);
+
+/// The median times of one READ, in nanoseconds.
+struct Medians {
+    engine: f64,
+    rust: f64,
+}
+
+impl Medians {
+    fn ratio(&self) -> f64 {
+        self.engine / self.rust
+    }
+}
+
+pub fn measure() {
+    let mut image = tape::image();
+    let start = record_at_the_beginning(&mut image);
+    check_alike(&start, &mut image);
+    time_by_turns(WARMING_READS, &start, &mut image);
+    println!("READ of {BLOCKS} blocks of {BLOCK_SIZE} bytes, the median of {READS} a round,");
+    println!("the buffer cleared before each");
+    println!("round   engine ns   Rust ns   engine MB/s   ratio");
+    let mut ratios = Vec::new();
+    for round in 1..=ROUNDS {
+        let medians = time_by_turns(READS, &start, &mut image);
+        show(round, &medians);
+        ratios.push(medians.ratio());
+    }
+    ratios.sort_by(f64::total_cmp);
+    println!(
+        "ratio: median {:.2}, from {:.2} to {:.2}",
+        ratios[ROUNDS / 2],
+        ratios[0],
+        ratios[ROUNDS - 1]
+    );
+}
+
+fn show(round: usize, medians: &Medians) {
+    let speed = ROOM as f64 * 1e3 / medians.engine;
+    println!(
+        "{round:>5} {:>11.0} {:>9.0} {speed:>13.0} {:>7.2}",
+        medians.engine,
+        medians.rust,
+        medians.ratio()
+    );
+}
+
+/// Reads with both, each first in half of the turns.
+fn time_by_turns(reads: usize, start: &[u8; 16], image: &mut [u8]) -> Medians {
+    let mut data = vec![0; ROOM];
+    let mut engine = Vec::with_capacity(reads);
+    let mut rust = Vec::with_capacity(reads);
+    for read in 0..reads {
+        if read % 2 == 0 {
+            engine.push(time_one(raw::packet, start, image, &mut data));
+            rust.push(time_one(by_purpose, start, image, &mut data));
+        } else {
+            rust.push(time_one(by_purpose, start, image, &mut data));
+            engine.push(time_one(raw::packet, start, image, &mut data));
+        }
+    }
+    Medians {
+        engine: median(engine),
+        rust: median(rust),
+    }
+}
+
+/// The median, which other work on the machine hardly moves.
+fn median(mut times: Vec<Duration>) -> f64 {
+    times.sort();
+    times[times.len() / 2].as_secs_f64() * 1e9
+}
+
+/// One READ from the beginning of the tape; the clearing is not timed.
+fn time_one(call: Call, start: &[u8; 16], image: &mut [u8], data: &mut [u8]) -> Duration {
+    let mut record = *start;
+    let mut answer = [0; 16];
+    data.fill(0);
+    black_box(&mut *data);
+    let begun = Instant::now();
+    call(
+        black_box(&mut record),
+        black_box(&mut *image),
+        black_box(&READ),
+        black_box(&mut *data),
+        black_box(&mut answer),
+    );
+    let taken = begun.elapsed();
+    black_box((&record, &answer, &*data));
+    taken
+}
+
+fn by_purpose(
+    record: &mut [u8; 16],
+    image: &mut [u8],
+    packet: &[u8],
+    data: &mut [u8],
+    answer: &mut [u8; 16],
+) {
+    purpose::packet(record, image, packet, data, answer);
+}
+
+fn record_at_the_beginning(image: &mut [u8]) -> [u8; 16] {
+    let mut record = [0; 16];
+    raw::fresh(&mut record);
+    let mut answer = [0; 16];
+    for _ in 0..2 {
+        raw::packet(&mut record, image, &[0; 12], &mut [], &mut answer);
+    }
+    assert_eq!(answer, [0; 16], "the drive is ready");
+    record
+}
+
+/// Both give the same record, answer and bytes, and these are the tape's.
+fn check_alike(start: &[u8; 16], image: &mut [u8]) {
+    let run = |call: Call, image: &mut [u8]| {
+        let (mut record, mut answer, mut data) = (*start, [0; 16], vec![0; ROOM]);
+        call(&mut record, image, &READ, &mut data, &mut answer);
+        (record, answer, data)
+    };
+    let engine = run(raw::packet, image);
+    assert_eq!(engine, run(by_purpose, image), "engine and Rust agree");
+    assert_eq!(engine.2, image[image.len() - ROOM..], "the tape's bytes");
+}

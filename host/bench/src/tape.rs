@@ -1,0 +1,28 @@
+//! The cartridge and the packet that are measured.
+
+pub const BLOCK_SIZE: usize = 1024;
+pub const BLOCKS: usize = 64;
+pub const ROOM: usize = BLOCK_SIZE * BLOCKS;
+
+/// READ of 64 blocks in fixed blocks.
+pub const READ: [u8; 12] = [0x08, 1, 0, 0, BLOCKS as u8, 0, 0, 0, 0, 0, 0, 0];
+
+const HEADER: usize = 32;
+
+/// A tape of 64 recorded data blocks, each byte set by its place.
+pub fn image() -> Vec<u8> {
+    let kinds_at = HEADER;
+    let blocks_at = kinds_at + BLOCKS;
+    let mut image = vec![0; blocks_at + ROOM];
+    image[0..2].copy_from_slice(&(HEADER as u16).to_be_bytes());
+    image[2..4].copy_from_slice(&(BLOCK_SIZE as u16).to_be_bytes());
+    image[4..8].copy_from_slice(&(BLOCKS as u32).to_be_bytes());
+    image[8..12].copy_from_slice(&(BLOCKS as u32).to_be_bytes());
+    image[12..16].copy_from_slice(&(kinds_at as u32).to_be_bytes());
+    image[16..20].copy_from_slice(&(blocks_at as u32).to_be_bytes());
+    image[kinds_at..blocks_at].fill(1);
+    for (place, byte) in image[blocks_at..].iter_mut().enumerate() {
+        *byte = (place * 7 + place / BLOCK_SIZE) as u8;
+    }
+    image
+}

@@ -1,0 +1,25 @@
+//! README: drives the proved engines and the independent model through the same calls and compares every byte after each one.
+//!
+//! [`PacketBench`] and [`PulseBench`] hold an engine's and a model's copy of every record, image and buffer, with guard bytes around
+//! them; each call is made on both and everything is compared. [`packet_sessions`] and [`pulse_sessions`] make the calls: good images
+//! and records mostly, so that deep states are reached, then damage of every kind. The tests in `tests/` run them.
+//!
+//! `TAPECARD_SEED` replaces the fixed seed and `TAPECARD_CALLS` the calls made for each drive in random sessions; a difference is
+//! printed with its whole case, and the same seed finds it again. `tests/mutants.rs` plants known mistakes in the model and asks that
+//! each is found. `tests/c_example.rs` compiles, runs and checks the C example and the header.
+
+mod guarded;
+mod origin;
+mod packet_bench;
+pub mod packet_sessions;
+mod pulse_bench;
+pub mod pulse_sessions;
+mod random;
+mod settings;
+
+pub use guarded::Guarded;
+pub use origin::{Difference, Origin, hex};
+pub use packet_bench::{PacketBench, PacketSeen};
+pub use pulse_bench::{PulseBench, PulseCall, PulseSeen};
+pub use random::Random;
+pub use settings::{calls_wanted, say, seed_wanted};

@@ -1,0 +1,548 @@
+//! Sessions of packets: images, records, packets and buffers, good ones mostly, and damage.
+
+use crate::{Difference, PacketBench, Random};
+
+const READ: u8 = 0x08;
+const WRITE: u8 = 0x0A;
+const WRITE_FILEMARK: u8 = 0x10;
+const SPACE: u8 = 0x11;
+const MODE_SELECT: u8 = 0x15;
+const MODE_SENSE: u8 = 0x1A;
+const LOAD_UNLOAD: u8 = 0x1B;
+const LOCATE: u8 = 0x2B;
+const READ_POSITION: u8 = 0x34;
+
+/// Opcodes with the weight that each has among good packets.
+const WEIGHTS: [(u8, u64); 13] = [
+    (0x00, 2),
+    (0x01, 3),
+    (0x03, 6),
+    (READ, 18),
+    (WRITE, 16),
+    (WRITE_FILEMARK, 8),
+    (SPACE, 18),
+    (0x12, 4),
+    (MODE_SELECT, 8),
+    (MODE_SENSE, 6),
+    (LOAD_UNLOAD, 4),
+    (LOCATE, 8),
+    (READ_POSITION, 5),
+];
+
+/// A transfer that needs more than this gets a buffer that is too short.
+const LARGEST_BUFFER: u64 = 1 << 20;
+
+/// Makes calls, session after session, until `calls` are compared.
+pub fn run(bench: &mut PacketBench, random_seed: u64, calls: u64) -> Result<(), Box<Difference>> {
+    let mut session = 0;
+    while bench.seen.calls < calls {
+        let mut random = Random::of_session(random_seed, session);
+        session += 1;
+        run_session(bench, &mut random, calls)?;
+    }
+    Ok(())
+}
+
+fn run_session(
+    bench: &mut PacketBench,
+    random: &mut Random,
+    calls: u64,
+) -> Result<(), Box<Difference>> {
+    let image = Shape::any(random).image(random);
+    bench.begin(&[0; 16], &image);
+    if random.percent(40) {
+        bench.fresh()?;
+    } else {
+        let record = valid_record(random, &image);
+        bench.set_record(&record);
+    }
+    for _ in 0..random.between(10, 250) {
+        if bench.seen.calls >= calls {
+            break;
+        }
+        make_call(bench, random)?;
+    }
+    Ok(())
+}
+
+fn make_call(bench: &mut PacketBench, random: &mut Random) -> Result<(), Box<Difference>> {
+    match random.weighted(&[890, 20, 20, 10, 5, 15, 20, 20]) {
+        0 => send_good(bench, random),
+        1 => send_cut(bench, random),
+        2 => send_random(bench, random),
+        3 => bench.change(),
+        4 => {
+            bench.fresh()?;
+            if random.percent(30) {
+                bench.change()?;
+            }
+            Ok(())
+        }
+        5 => with_damaged_record(bench, random),
+        6 => with_damaged_image(bench, random),
+        _ => {
+            edit_good_image(bench, random);
+            send_good(bench, random)
+        }
+    }
+}
+
+fn send_good(bench: &mut PacketBench, random: &mut Random) -> Result<(), Box<Difference>> {
+    let place = Place::of(bench);
+    let packet = good_packet(random, &place);
+    let data = buffer_for(random, &packet, &place);
+    bench.send(&packet, &data)?;
+    Ok(())
+}
+
+/// A packet that is too short or too long.
+fn send_cut(bench: &mut PacketBench, random: &mut Random) -> Result<(), Box<Difference>> {
+    let mut packet = good_packet(random, &Place::of(bench)).to_vec();
+    let length = match random.below(4) {
+        0 => 11,
+        1 => 13,
+        2 => random.below(12) as usize,
+        _ => random.between(13, 300) as usize,
+    };
+    packet.resize(length, random.byte());
+    bench.send(&packet, &[0xD7; 40])?;
+    Ok(())
+}
+
+fn send_random(bench: &mut PacketBench, random: &mut Random) -> Result<(), Box<Difference>> {
+    let mut packet = [0; 12];
+    random.fill(&mut packet);
+    if random.percent(60) {
+        packet[0] = opcode(random);
+    }
+    let data = buffer_for(random, &packet, &Place::of(bench));
+    bench.send(&packet, &data)?;
+    Ok(())
+}
+
+/// One packet with a record that is damaged in one field or wholly; mostly put back afterwards.
+fn with_damaged_record(
+    bench: &mut PacketBench,
+    random: &mut Random,
+) -> Result<(), Box<Difference>> {
+    let good = *bench.record();
+    let mut record = good;
+    let recorded = Place::of(bench).recorded;
+    match random.below(8) {
+        0 => put_long(&mut record, 0, recorded + 1),
+        1 => put_long(&mut record, 0, random.number() as u32),
+        2 => record[5] = random.byte(),
+        3 => put_word(
+            &mut record,
+            6,
+            random.pick(&[1, 61, 63, 124, 249, 251, 499, 501, 0xFFFF]),
+        ),
+        4 => record[8] = random.pick(&[15, 16, 17, 255]),
+        5 => record[random.below(16) as usize] = random.byte(),
+        6 => record[4] = random.byte(),
+        _ => random.fill(&mut record),
+    }
+    bench.set_record(&record);
+    if random.percent(15) {
+        bench.change()?;
+    }
+    send_good(bench, random)?;
+    let refused = bench.answer()[0] == 3;
+    if refused || random.percent(50) {
+        bench.set_record(&good);
+    }
+    Ok(())
+}
+
+/// One packet over an image that is damaged in its header or cut; put back afterwards.
+fn with_damaged_image(bench: &mut PacketBench, random: &mut Random) -> Result<(), Box<Difference>> {
+    let good = bench.image().to_vec();
+    let record = *bench.record();
+    let mut image = good.clone();
+    damage_image(&mut image, random);
+    bench.set_image(&image);
+    send_good(bench, random)?;
+    bench.set_image(&good);
+    bench.set_record(&record);
+    Ok(())
+}
+
+fn damage_image(image: &mut Vec<u8>, random: &mut Random) {
+    let capacity = long_at(image, 4);
+    let size = u32::from(word_at(image, 2));
+    let kinds_at = long_at(image, 12);
+    let blocks_at = long_at(image, 16);
+    let length = image.len() as u32;
+    match random.below(13) {
+        0 => put_word(image, 0, random.pick(&[0, 31, 33, 0x2000, 0xFFFF])),
+        1 => put_word(image, 2, random.pick(&[0, 511, 513, 1023, 1025, 512, 1024])),
+        2 => {
+            let choices = [0, 65_535, 65_536, capacity + 1, u32::MAX, 0x1_0001];
+            put_long(image, 4, random.pick(&choices));
+        }
+        3 => put_long(
+            image,
+            8,
+            random.pick(&[capacity, capacity + 1, 65_536, u32::MAX]),
+        ),
+        4 => {
+            let wraps = 0u32.wrapping_sub(capacity);
+            let border = blocks_at - capacity;
+            let over = wraps.wrapping_add(32);
+            let choices = [0, 31, 32, border, border + 1, wraps, over, u32::MAX];
+            put_long(image, 12, random.pick(&choices));
+        }
+        5 => {
+            let blocks = capacity * size;
+            let wraps = 0u32.wrapping_sub(blocks);
+            let tight = kinds_at + capacity;
+            let choices = [
+                tight - 1,
+                tight,
+                length - blocks,
+                length - blocks + 1,
+                wraps,
+                wraps.wrapping_add(64),
+                u32::MAX,
+            ];
+            put_long(image, 16, random.pick(&choices));
+        }
+        6 => image[20] = random.pick(&[0, 1, 2, 0x80, 0xFF]),
+        7 => image[random.between(24, 31) as usize] = random.pick(&[1, 0x80]),
+        8 => {
+            let border = (capacity + 1).min(0xFFFF) as u16;
+            put_word(image, 22, random.pick(&[border - 1, border, 0xFFFF]));
+        }
+        9 => {
+            let needed = (blocks_at + capacity * size) as usize;
+            image.resize(needed - random.below(2) as usize, 0);
+        }
+        10 => image.truncate(random.below(40) as usize),
+        11 => {
+            let at = random.below(32) as usize;
+            image[at] = random.byte();
+        }
+        _ => random.fill(&mut image[..32]),
+    }
+}
+
+/// Another protection, early warning or kind, all of them allowed.
+fn edit_good_image(bench: &mut PacketBench, random: &mut Random) {
+    let place = Place::of(bench);
+    let choice = random.below(3);
+    let number = random.number();
+    bench.edit_image(|image| match choice {
+        0 => image[20] = u8::from(number & 7 == 0),
+        1 => put_word(image, 22, (number % u64::from(place.capacity + 1)) as u16),
+        _ => {
+            let element = (number % u64::from(place.capacity)) as u32;
+            image[(place.kinds_at + element) as usize] = (number >> 32) as u8 % 4;
+        }
+    });
+}
+
+/// What a session needs to know to make packets that go far.
+struct Place {
+    position: u32,
+    loaded: bool,
+    recorded: u32,
+    capacity: u32,
+    size: u32,
+    kinds_at: u32,
+}
+
+impl Place {
+    fn of(bench: &PacketBench) -> Place {
+        let image = bench.image();
+        let record = bench.record();
+        let (recorded, capacity, size, kinds_at) = if image.len() < 32 {
+            (0, 1, 512, 32)
+        } else {
+            (
+                long_at(image, 8).min(65_536),
+                long_at(image, 4).clamp(1, 65_536),
+                u32::from(word_at(image, 2)).clamp(1, 1024),
+                long_at(image, 12),
+            )
+        };
+        Place {
+            position: long_at(record, 0).min(recorded),
+            loaded: record[4] & 1 == 1,
+            recorded,
+            capacity,
+            size,
+            kinds_at,
+        }
+    }
+}
+
+fn opcode(random: &mut Random) -> u8 {
+    let weights = WEIGHTS.map(|(_, weight)| weight);
+    WEIGHTS[random.weighted(&weights)].0
+}
+
+fn good_packet(random: &mut Random, place: &Place) -> [u8; 12] {
+    let mut packet = [0; 12];
+    if random.percent(25) {
+        random.fill(&mut packet);
+    }
+    packet[0] = if random.percent(4) {
+        random.byte()
+    } else if !place.loaded && random.percent(40) {
+        LOAD_UNLOAD
+    } else {
+        opcode(random)
+    };
+    match packet[0] {
+        READ | WRITE => {
+            packet[1] = packet[1] & 0xFE | u8::from(!random.percent(4));
+            put_count(&mut packet, count(random, place));
+        }
+        WRITE_FILEMARK => put_count(&mut packet, count(random, place)),
+        SPACE => {
+            let code = random.pick(&[0, 0, 0, 0, 1, 1, 1, 1, 3, 2, 4, 5, 6, 7]);
+            packet[1] = packet[1] & 0xF8 | code;
+            put_count(&mut packet, signed_count(random, place));
+        }
+        MODE_SELECT => packet[4] = random.pick(&[0, 12, 32, 32, 32, 32, 11, 13, 31, 33, 255]),
+        MODE_SENSE => {
+            packet[2] = packet[2] & 0xC0 | random.pick(&[0, 0, 0x2A, 0x2A, 0x2A, 0x2B, 0x3F]);
+            packet[4] = allocation(random, 32);
+        }
+        LOAD_UNLOAD => packet[4] = packet[4] & 0xF8 | random.pick(&[1, 1, 1, 3, 0, 2, 4, 5, 6, 7]),
+        LOCATE => {
+            packet[1] = packet[1] & 0xFD | if random.percent(4) { 2 } else { 0 };
+            let past = place.recorded + 1;
+            let target = match random.below(8) {
+                0 => place.recorded,
+                1 => past,
+                2 => random.pick(&[u32::MAX, 0x8000_0000, 0x1_0000, 0x100_0000]),
+                _ => random.below(u64::from(past)) as u32,
+            };
+            put_long(&mut packet, 3, target);
+        }
+        0x03 => packet[4] = allocation(random, 20),
+        0x12 => packet[4] = allocation(random, 36),
+        _ => (),
+    }
+    packet
+}
+
+/// An allocation length: around the whole, 0, or any.
+fn allocation(random: &mut Random, whole: u8) -> u8 {
+    match random.below(4) {
+        0 => random.pick(&[0, 1, 11, 12, 13, whole - 1, whole + 1]),
+        1 => random.byte(),
+        2 => 255,
+        _ => whole,
+    }
+}
+
+fn count(random: &mut Random, place: &Place) -> u32 {
+    let to_end = place.recorded - place.position;
+    let to_capacity = place.capacity.saturating_sub(place.position);
+    match random.below(16) {
+        0 => 0,
+        1 => to_end,
+        2 => to_end + 1,
+        3 => to_capacity,
+        4 => to_capacity + 1,
+        5 => random.below(u64::from(place.capacity) + 3) as u32,
+        6 => random.pick(&[0xFF_FFFF, 0x80_0000, 0x40_0000, 0x7F_FFFF, 0x1_0000]),
+        7 => random.below(1 << 24) as u32,
+        8 | 9 => 2,
+        10 => 3,
+        _ => 1,
+    }
+}
+
+/// A count in two's complement of 24 bits.
+fn signed_count(random: &mut Random, place: &Place) -> u32 {
+    let back = |magnitude: u32| 0x100_0000 - magnitude.max(1);
+    match random.below(16) {
+        0 => 0,
+        1 => random.pick(&[0x7F_FFFF, 0x80_0000, 0x80_0001, 0xFF_FFFF]),
+        2 => random.below(1 << 24) as u32,
+        3 => place.recorded - place.position,
+        4 => place.recorded - place.position + 1,
+        5 => back(place.position),
+        6 => back(place.position + 1),
+        7..=10 => random.between(1, 4) as u32,
+        _ => back(random.between(1, 4) as u32),
+    }
+}
+
+/// A data buffer: as long as needed mostly, then longer, one shorter, or any.
+fn buffer_for(random: &mut Random, packet: &[u8; 12], place: &Place) -> Vec<u8> {
+    let need = match packet[0] {
+        READ | WRITE => u64::from(count_in(packet)) * u64::from(place.size),
+        0x03 => u64::from(packet[4].min(20)),
+        0x12 => u64::from(packet[4].min(36)),
+        MODE_SELECT => u64::from(packet[4]),
+        MODE_SENSE if packet[2] & 0x3F == 0 => u64::from(packet[4].min(12)),
+        MODE_SENSE => u64::from(packet[4].min(32)),
+        READ_POSITION => 20,
+        _ => 0,
+    };
+    let length = match random.below(20) {
+        _ if need > LARGEST_BUFFER => random.below(3000),
+        0 | 1 => need.saturating_sub(1),
+        2 | 3 => need + random.between(1, 40),
+        4 => need + random.between(1, 2000),
+        5 => random.below(need + 1),
+        _ => need,
+    };
+    if packet[0] != WRITE && packet[0] != MODE_SELECT {
+        return vec![random.byte(); length as usize];
+    }
+    let mut data = vec![0; length as usize];
+    random.fill(&mut data);
+    if packet[0] == MODE_SELECT {
+        put_list(random, &mut data);
+    }
+    data
+}
+
+/// A MODE SELECT list, right mostly or wrong in one place.
+fn put_list(random: &mut Random, list: &mut [u8]) {
+    if list.len() < 32 {
+        return;
+    }
+    list[12] = 0x2A;
+    list[13] = 0x12;
+    put_word(list, 26, random.pick(&model::packet::SPEEDS));
+    match random.below(10) {
+        0 => list[12] = random.pick(&[0xAA, 0x2B, 0, 0x6A]),
+        1 => list[13] = random.pick(&[0x10, 0x13, 0]),
+        2 => put_word(
+            list,
+            26,
+            random.pick(&[1, 61, 63, 126, 249, 501, 0x3E00, 0xFFFF]),
+        ),
+        _ => (),
+    }
+}
+
+/// The measures of a good image.
+pub struct Shape {
+    pub size: u16,
+    pub capacity: u32,
+    pub recorded: u32,
+    pub warning: u16,
+    pub kinds_gap: usize,
+    pub blocks_gap: usize,
+    pub tail: usize,
+    pub protected: bool,
+}
+
+impl Shape {
+    /// Small images mostly.
+    pub fn any(random: &mut Random) -> Shape {
+        let capacity = match random.below(100) {
+            0..=69 => random.between(1, 4),
+            70..=95 => random.between(5, 12),
+            96..=98 => random.between(13, 48),
+            _ => random.between(49, 100),
+        };
+        let gap = |random: &mut Random| {
+            if random.percent(70) {
+                0
+            } else {
+                random.between(1, 50) as usize
+            }
+        };
+        Shape {
+            size: if random.percent(75) { 512 } else { 1024 },
+            capacity: capacity as u32,
+            recorded: match random.below(6) {
+                0 => 0,
+                1 | 2 => capacity as u32,
+                _ => random.below(capacity + 1) as u32,
+            },
+            warning: match random.below(4) {
+                0 => 0,
+                1 => random.pick(&[1, capacity]) as u16,
+                _ => random.below(capacity + 1) as u16,
+            },
+            kinds_gap: gap(random),
+            blocks_gap: gap(random),
+            tail: gap(random),
+            protected: random.percent(8),
+        }
+    }
+
+    /// An image of these measures with random kinds and blocks.
+    pub fn image(&self, random: &mut Random) -> Vec<u8> {
+        let capacity = self.capacity as usize;
+        let kinds_at = 32 + self.kinds_gap;
+        let blocks_at = kinds_at + capacity + self.blocks_gap;
+        let length = blocks_at + capacity * usize::from(self.size) + self.tail;
+        let mut image = vec![0; length];
+        random.fill(&mut image[32..]);
+        put_word(&mut image, 0, 32);
+        put_word(&mut image, 2, self.size);
+        put_long(&mut image, 4, self.capacity);
+        put_long(&mut image, 8, self.recorded);
+        put_long(&mut image, 12, kinds_at as u32);
+        put_long(&mut image, 16, blocks_at as u32);
+        image[20] = u8::from(self.protected);
+        image[21] = random.byte();
+        put_word(&mut image, 22, self.warning);
+        let odd_ones = random.pick(&[2, 10, 40]);
+        for kind in &mut image[kinds_at..kinds_at + self.recorded as usize] {
+            *kind = if random.percent(odd_ones) {
+                random.pick(&[2, 2, 2, 2, 0, 3, 4, 5, 0xFF])
+            } else {
+                1
+            };
+        }
+        image
+    }
+}
+
+/// A record that keeps the rules for this image.
+pub fn valid_record(random: &mut Random, image: &[u8]) -> [u8; 16] {
+    let recorded = long_at(image, 8);
+    let mut record = [0; 16];
+    random.fill(&mut record[8..]);
+    let position = match random.below(4) {
+        0 => 0,
+        1 => recorded,
+        _ => random.below(u64::from(recorded) + 1) as u32,
+    };
+    put_long(&mut record, 0, position);
+    record[4] = u8::from(!random.percent(10));
+    record[5] = random.pick(&[0, 0, 0, 0, 0, 1, 2, 3]);
+    put_word(&mut record, 6, random.pick(&model::packet::SPEEDS));
+    record[8] %= 16;
+    if random.flag() {
+        record[11] %= 8;
+    } else {
+        record[4] |= random.byte() & 0xFE;
+    }
+    record
+}
+
+pub fn count_in(packet: &[u8; 12]) -> u32 {
+    u32::from_be_bytes([0, packet[2], packet[3], packet[4]])
+}
+
+pub fn put_count(packet: &mut [u8; 12], count: u32) {
+    packet[2..5].copy_from_slice(&count.to_be_bytes()[1..]);
+}
+
+pub fn word_at(bytes: &[u8], at: usize) -> u16 {
+    u16::from_be_bytes([bytes[at], bytes[at + 1]])
+}
+
+pub fn long_at(bytes: &[u8], at: usize) -> u32 {
+    u32::from_be_bytes([bytes[at], bytes[at + 1], bytes[at + 2], bytes[at + 3]])
+}
+
+pub fn put_word(bytes: &mut [u8], at: usize, value: u16) {
+    bytes[at..at + 2].copy_from_slice(&value.to_be_bytes());
+}
+
+pub fn put_long(bytes: &mut [u8], at: usize, value: u32) {
+    bytes[at..at + 4].copy_from_slice(&value.to_be_bytes());
+}

@@ -1,0 +1,194 @@
+//! The pulse drive, engine and model side by side.
+
+use std::collections::{BTreeMap, BTreeSet, VecDeque};
+
+use model::Bug;
+use model::pulse::Branch;
+use tapecard::raw;
+
+use crate::{Difference, Guarded, Origin};
+
+/// What an answer holds before a call, to see that the whole of it is written.
+const UNWRITTEN: [u8; 8] = [0x5A; 8];
+
+/// Calls before a difference that its report shows.
+const HISTORY: usize = 60;
+
+/// One call of the pulse drive.
+#[derive(Clone, Copy, Debug, PartialEq, Eq)]
+pub enum PulseCall {
+    PowerOn(u16, u8),
+    Train(u16),
+    Tick,
+    Insert([u8; 8]),
+    Remove,
+    Wait(u32),
+}
+
+/// What calls have shown so far.
+#[derive(Default)]
+pub struct PulseSeen {
+    /// Calls compared.
+    pub calls: u64,
+    /// Ways that calls went.
+    pub branches: BTreeMap<Branch, u64>,
+    /// Error numbers in the engine's record after accepted calls.
+    pub errors: BTreeSet<u8>,
+    /// Refusal numbers that the engine gave.
+    pub refusals: BTreeMap<u8, u64>,
+    /// Levels that the engine answered.
+    pub levels: BTreeSet<u8>,
+    /// The most ticks that one wait answered.
+    pub longest_wait: u32,
+}
+
+/// A session of one drive.
+pub struct PulseBench {
+    bug: Bug,
+    engine_record: Guarded,
+    engine_answer: Guarded,
+    description: Guarded,
+    model_record: [u8; 32],
+    model_answer: [u8; 8],
+    before: [u8; 32],
+    history: VecDeque<PulseCall>,
+    pub origin: Origin,
+    pub seen: PulseSeen,
+}
+
+impl PulseBench {
+    pub fn new(bug: Bug, seed: u64) -> PulseBench {
+        PulseBench {
+            bug,
+            engine_record: Guarded::new(&[0; 32]),
+            engine_answer: Guarded::new(&UNWRITTEN),
+            description: Guarded::new(&[0; 8]),
+            model_record: [0; 32],
+            model_answer: [0; 8],
+            before: [0; 32],
+            history: VecDeque::new(),
+            origin: Origin {
+                seed,
+                ..Origin::default()
+            },
+            seen: PulseSeen::default(),
+        }
+    }
+
+    /// Begins a session: both sides get this record.
+    pub fn begin(&mut self, record: &[u8; 32]) {
+        self.origin.session += 1;
+        self.set_record(record);
+    }
+
+    pub fn record(&self) -> &[u8; 32] {
+        self.engine_record.array()
+    }
+
+    /// The answer to the last call.
+    pub fn answer(&self) -> &[u8; 8] {
+        self.engine_answer.array()
+    }
+
+    pub fn set_record(&mut self, record: &[u8; 32]) {
+        self.engine_record.set(record);
+        self.model_record = *record;
+        self.history.clear();
+    }
+
+    /// Makes one call on both sides and compares record, answer and guards.
+    pub fn make(&mut self, call: PulseCall) -> Result<Option<Branch>, Box<Difference>> {
+        self.origin.call += 1;
+        self.seen.calls += 1;
+        self.before = self.model_record;
+        self.engine_answer.set(&UNWRITTEN);
+        self.ask_engine(call);
+        let branch = self.ask_model(call);
+        self.compare(call)?;
+        self.note(branch);
+        if self.history.len() == HISTORY {
+            self.history.pop_front();
+        }
+        self.history.push_back(call);
+        Ok(branch)
+    }
+
+    fn ask_engine(&mut self, call: PulseCall) {
+        let record = self.engine_record.array_mut();
+        let answer = self.engine_answer.array_mut();
+        match call {
+            PulseCall::PowerOn(vendor, rom) => raw::pulse_power_on(record, vendor, rom),
+            PulseCall::Train(pulses) => raw::pulse_train(record, pulses, answer),
+            PulseCall::Tick => raw::pulse_tick(record, answer),
+            PulseCall::Insert(cartridge) => {
+                self.description.set(&cartridge);
+                raw::pulse_insert(record, self.description.array(), answer);
+            }
+            PulseCall::Remove => raw::pulse_remove(record, answer),
+            PulseCall::Wait(limit) => raw::pulse_wait(record, limit, answer),
+        }
+    }
+
+    fn ask_model(&mut self, call: PulseCall) -> Option<Branch> {
+        let record = &mut self.model_record;
+        let (answer, branch) = match call {
+            PulseCall::PowerOn(vendor, rom) => {
+                model::pulse::power_on(record, vendor, rom);
+                self.model_answer = UNWRITTEN;
+                return None;
+            }
+            PulseCall::Train(pulses) => model::pulse::train_with(self.bug, record, pulses),
+            PulseCall::Tick => model::pulse::tick_with(self.bug, record),
+            PulseCall::Insert(cartridge) => model::pulse::insert_with(self.bug, record, &cartridge),
+            PulseCall::Remove => model::pulse::remove_with(self.bug, record),
+            PulseCall::Wait(limit) => model::pulse::wait_with(self.bug, record, limit),
+        };
+        self.model_answer = answer;
+        Some(branch)
+    }
+
+    fn compare(&self, call: PulseCall) -> Result<(), Box<Difference>> {
+        let guards_hold = self.engine_record.guards_hold()
+            && self.engine_answer.guards_hold()
+            && self.description.guards_hold();
+        let what = if self.engine_answer.bytes() != self.model_answer {
+            "the answer"
+        } else if self.engine_record.bytes() != self.model_record {
+            "the record"
+        } else if matches!(call, PulseCall::Insert(c) if self.description.bytes() != c) {
+            "the cartridge description"
+        } else if !guards_hold {
+            "the bytes around a buffer"
+        } else {
+            return Ok(());
+        };
+        Err(self.difference(what, call))
+    }
+
+    fn difference(&self, what: &str, call: PulseCall) -> Box<Difference> {
+        let session = format!("{call:?}, after {:?}", self.history);
+        let difference = Difference::new(self.origin, what, &session)
+            .with("record before", &self.before)
+            .with("engine's answer", self.engine_answer.bytes())
+            .with("model's answer", &self.model_answer)
+            .with("engine's record", self.engine_record.bytes())
+            .with("model's record", &self.model_record);
+        Box::new(difference)
+    }
+
+    fn note(&mut self, branch: Option<Branch>) {
+        let Some(branch) = branch else {
+            return;
+        };
+        *self.seen.branches.entry(branch).or_default() += 1;
+        let answer: [u8; 8] = *self.engine_answer.array();
+        if answer[0] != 0 {
+            *self.seen.refusals.entry(answer[0]).or_default() += 1;
+            return;
+        }
+        self.seen.errors.insert(self.record()[14]);
+        self.seen.levels.insert(answer[1]);
+        let ticks = u32::from_be_bytes([answer[4], answer[5], answer[6], answer[7]]);
+        self.seen.longest_wait = self.seen.longest_wait.max(ticks);
+    }
+}

@@ -1,0 +1,29 @@
+//! A mistake planted in the model is found, so one in the engine would be.
+
+use compare::{PacketBench, PulseBench, packet_sessions, pulse_sessions, say, seed_wanted};
+use model::Bug;
+
+/// Calls within which each mistake must be found.
+const CALLS: u64 = 100_000;
+
+#[test]
+fn planted_packet_mistakes_are_found() {
+    for bug in Bug::PACKET {
+        let seed = seed_wanted();
+        let mut bench = PacketBench::new(bug, seed);
+        let found = packet_sessions::run(&mut bench, seed, CALLS).is_err();
+        assert!(found, "{bug:?} was not found within {CALLS} calls");
+        say(&format!("{bug:?} found by call {}", bench.seen.calls));
+    }
+}
+
+#[test]
+fn planted_pulse_mistakes_are_found() {
+    for bug in Bug::PULSE {
+        let seed = seed_wanted();
+        let mut bench = PulseBench::new(bug, seed);
+        let found = pulse_sessions::run(&mut bench, seed, CALLS).is_err();
+        assert!(found, "{bug:?} was not found within {CALLS} calls");
+        say(&format!("{bug:?} found by call {}", bench.seen.calls));
+    }
+}

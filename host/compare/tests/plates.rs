@@ -1,0 +1,225 @@
+//! The plates that must print alike, on engine and model at once.
+
+use std::collections::VecDeque;
+
+use compare::packet_sessions::{Shape, long_at, put_count, put_long, word_at};
+use compare::{PacketBench, PulseBench, PulseCall, Random, pulse_sessions};
+use model::Bug;
+
+/// "Image C 4, B 512, W 0, kinds 1 2 1, U 3, attention cleared".
+fn packet_bench(position: u32, warning: u16) -> PacketBench {
+    let shape = Shape {
+        size: 512,
+        capacity: 4,
+        recorded: 3,
+        warning,
+        kinds_gap: 0,
+        blocks_gap: 0,
+        tail: 0,
+        protected: false,
+    };
+    let mut image = shape.image(&mut Random::new(9));
+    image[32..35].copy_from_slice(&[1, 2, 1]);
+    let mut record = [0; 16];
+    put_long(&mut record, 0, position);
+    record[4] = 1;
+    let mut bench = PacketBench::new(Bug::None, 0);
+    bench.begin(&record, &image);
+    bench
+}
+
+fn send(bench: &mut PacketBench, opcode: u8, byte_1: u8, count: u32) {
+    let mut packet = [0; 12];
+    packet[0] = opcode;
+    packet[1] = byte_1;
+    put_count(&mut packet, count);
+    send_packet(bench, &packet);
+}
+
+fn send_packet(bench: &mut PacketBench, packet: &[u8]) {
+    if let Err(difference) = bench.send(packet, &[0x55; 1024]) {
+        panic!("{difference}");
+    }
+}
+
+fn sense_bytes(bench: &mut PacketBench) -> Vec<u8> {
+    send(bench, 0x03, 0, 20);
+    bench.data()[..20].to_vec()
+}
+
+fn status(bench: &PacketBench) -> u8 {
+    assert_eq!(bench.answer()[0], 0);
+    bench.answer()[1]
+}
+
+fn blocks(bench: &PacketBench) -> u32 {
+    long_at(bench.answer(), 4)
+}
+
+fn position(bench: &PacketBench) -> u32 {
+    long_at(bench.record(), 0)
+}
+
+fn residue(bench: &PacketBench) -> u32 {
+    assert_eq!(bench.record()[11] & 1, 1);
+    long_at(bench.record(), 12)
+}
+
+fn triple(bench: &PacketBench) -> [u8; 3] {
+    let record = bench.record();
+    [record[8], record[9], record[10]]
+}
+
+#[test]
+fn two_reads() {
+    let mut bench = packet_bench(0, 0);
+    send(&mut bench, 0x08, 1, 2);
+    assert_eq!(
+        (status(&bench), blocks(&bench), position(&bench)),
+        (2, 1, 2)
+    );
+    assert_eq!(bench.data()[512..], [0x55; 512]);
+    let plate = [
+        0xF0, 0, 0x80, 0, 0, 0, 1, 0x0C, 0, 0, 0, 0, 0, 1, 0, 0, 0, 0, 0, 0,
+    ];
+    assert_eq!(sense_bytes(&mut bench), plate);
+    send(&mut bench, 0x08, 1, 2);
+    assert_eq!(
+        (status(&bench), blocks(&bench), position(&bench)),
+        (2, 1, 3)
+    );
+    assert_eq!((residue(&bench), triple(&bench)), (1, [8, 0, 5]));
+}
+
+#[test]
+fn three_writes() {
+    let mut bench = packet_bench(3, 0);
+    send(&mut bench, 0x0A, 1, 2);
+    assert_eq!(
+        (status(&bench), blocks(&bench), position(&bench)),
+        (2, 1, 4)
+    );
+    assert_eq!(residue(&bench), 1);
+    assert_eq!(sense_bytes(&mut bench)[2], 0x4D);
+
+    let mut bench = packet_bench(3, 1);
+    send(&mut bench, 0x0A, 1, 1);
+    assert_eq!((status(&bench), blocks(&bench), residue(&bench)), (2, 1, 0));
+    assert_eq!(sense_bytes(&mut bench)[2], 0x40);
+
+    let mut bench = packet_bench(0, 0);
+    send(&mut bench, 0x0A, 1, 1);
+    assert_eq!((status(&bench), long_at(bench.image(), 8)), (0, 1));
+}
+
+#[test]
+fn three_spaces() {
+    let mut bench = packet_bench(3, 0);
+    send(&mut bench, 0x11, 1, 0xFF_FFFF);
+    assert_eq!((status(&bench), position(&bench)), (0, 1));
+
+    let mut bench = packet_bench(1, 0);
+    send(&mut bench, 0x11, 0, 1);
+    assert_eq!((position(&bench), residue(&bench)), (2, 1));
+
+    let mut bench = packet_bench(0, 0);
+    send(&mut bench, 0x11, 0, 0xFF_FFFF);
+    assert_eq!((residue(&bench), triple(&bench)), (1, [0, 0, 4]));
+}
+
+#[test]
+fn locate_and_load() {
+    let mut bench = packet_bench(0, 0);
+    send_packet(&mut bench, &[0x2B, 0, 0, 0, 0, 0, 4, 0, 0, 0, 0, 0]);
+    assert_eq!((position(&bench), triple(&bench)), (3, [8, 0, 5]));
+
+    let mut bench = packet_bench(0, 0);
+    send(&mut bench, 0x1B, 0, 5);
+    assert_eq!(triple(&bench), [5, 0x24, 0]);
+}
+
+#[test]
+fn cut_packets() {
+    let mut bench = packet_bench(0, 0);
+    send_packet(&mut bench, &[0; 11]);
+    assert_eq!(bench.answer()[0], 1);
+    send_packet(&mut bench, &[0; 12]);
+    assert_eq!(status(&bench), 0);
+}
+
+fn pulse_bench() -> PulseBench {
+    let mut bench = PulseBench::new(Bug::None, 0);
+    make(&mut bench, PulseCall::PowerOn(0, 0));
+    bench
+}
+
+fn make(bench: &mut PulseBench, call: PulseCall) -> u8 {
+    if let Err(difference) = bench.make(call) {
+        panic!("{difference}");
+    }
+    bench.answer()[1]
+}
+
+fn trains(bench: &mut PulseBench, trains: &[u16]) -> Vec<u8> {
+    let level = |&n| make(bench, PulseCall::Train(n));
+    trains.iter().map(level).collect()
+}
+
+#[test]
+fn a_skip_of_300() {
+    let mut bench = pulse_bench();
+    let cartridge = [0x03, 0xE8, 20, 0, 0, 2, 2, 2];
+    make(&mut bench, PulseCall::Insert(cartridge));
+    let mut recovery = VecDeque::new();
+    pulse_sessions::plan_recovery(&mut recovery);
+    assert_eq!(recovery.len(), 46);
+    for call in recovery {
+        make(&mut bench, call);
+    }
+    assert_eq!(bench.record()[14], 0);
+    trains(&mut bench, &[35, 14, 4, 3]);
+    assert_eq!(word_at(bench.record(), 10), 300);
+    make(&mut bench, PulseCall::Wait(u32::MAX));
+    assert_eq!(long_at(bench.answer(), 4), 300);
+}
+
+#[test]
+fn the_error_report_after_power_on() {
+    let mut bench = pulse_bench();
+    assert_eq!(trains(&mut bench, &[7]), [1]);
+    let levels = trains(&mut bench, &[2; 17]);
+    assert_eq!(levels, [0, 1, 0, 1, 1, 0, 0, 0, 0, 0, 0, 0, 0, 0, 0, 0, 1]);
+}
+
+#[test]
+fn eighteen_close_the_report_and_seventeen_do_not() {
+    let mut bench = pulse_bench();
+    trains(&mut bench, &[7, 36]);
+    trains(&mut bench, &[2; 17]);
+    assert_ne!(bench.record()[17], 0);
+    trains(&mut bench, &[2]);
+    assert_eq!(bench.record()[17], 0);
+}
+
+#[test]
+fn the_bench_program() {
+    let mut bench = pulse_bench();
+    assert_eq!(trains(&mut bench, &[6, 2, 2, 2]), [1, 1, 1, 0]);
+}
+
+#[test]
+fn wrong_prints_are_ruled_out() {
+    let mut bench = pulse_bench();
+    trains(&mut bench, &[13, 5]);
+    assert_eq!(bench.record()[20], 0);
+    assert_eq!(bench.record()[12], 0);
+
+    let mut bench = pulse_bench();
+    make(&mut bench, PulseCall::Insert([0, 9, 2, 0, 9, 2, 0, 0]));
+    trains(&mut bench, &[7]);
+    assert_eq!(bench.record()[14], 26);
+
+    let mut bench = packet_bench(1, 0);
+    send(&mut bench, 0x0A, 1, 1);
+    assert_eq!(long_at(bench.image(), 8), 2);
+}

@@ -1,0 +1,142 @@
+//! Known mistakes that can be planted in the model.
+
+/// A planted mistake, or none.
+#[derive(Clone, Copy, Debug, PartialEq, Eq, Hash)]
+pub enum Bug {
+    /// The drive as the requirements have it.
+    None,
+
+    // Packet drive.
+    /// A READ that stops at a filemark counts it as a block moved.
+    ResidueCountsFilemark,
+    /// A write in the middle keeps U.
+    WriteKeepsRecorded,
+    /// An unknown opcode is told before a pending attention.
+    AttentionAfterOpcode,
+    /// A protected cartridge is found out after the blocks are stored.
+    ProtectionAfterTransfer,
+    /// A short buffer is refused before protection is looked at.
+    ProtectionAfterBuffer,
+    /// REQUEST SENSE clears a pending attention.
+    SenseClearsAttention,
+    /// INQUIRY leaves the sense.
+    InquiryKeepsSense,
+    /// Early warning is told at its border too.
+    WarningAtBorder,
+    /// The end of data in a READ shows EOM.
+    EndOfDataShowsEom,
+    /// SPACE back over filemarks ends on the end side.
+    SpaceBackEndsBeyond,
+    /// A LOCATE beyond the end of data has a valid residue.
+    LocateBeyondIsValid,
+    /// A READ clears the buffer beyond the transfer.
+    ReadClearsRest,
+    /// WRITE FILEMARK clears the block's bytes.
+    FilemarkClearsBlock,
+    /// The image's size is summed in 32 bits.
+    SizeWraps,
+    /// N * B is multiplied in 32 bits.
+    NeedWraps,
+    /// A position at the end of data is refused.
+    PositionAtEndRefused,
+    /// A page code is taken without its two high bits.
+    PageCodeMasked,
+    /// A wrong list answers the bytes it took.
+    WrongListTakesBytes,
+    /// Changing the cartridge keeps a pending reset.
+    ChangeKeepsReset,
+    /// A refused packet clears the sense.
+    RefusalClearsSense,
+
+    // Pulse drive.
+    /// The train after a rejected 13 is taken as a track.
+    RejectedSeekTakesTrack,
+    /// A 7 sent while moving clears the error.
+    ErrorClearedWhileMoving,
+    /// A repeat stays owed after it was given.
+    RepeatStaysOwed,
+    /// A wait counts one tick more than it used.
+    WaitCountsOneMore,
+    /// The first tick goes all the way.
+    TickJumps,
+    /// A tick keeps unfinished arguments.
+    TickKeepsArguments,
+    /// Trains are cut to a byte.
+    TrainsCutToByte,
+    /// A 6 sent while moving counts as asking for status.
+    StatusAskedWhileMoving,
+    /// A 7 clears the new mark though no status was asked.
+    NewMarkClearedUnasked,
+    /// A later error overwrites the first.
+    LaterErrorWins,
+    /// Error 7 keeps the argument train as its command.
+    TrackErrorKeepsTrain,
+    /// A latched error leaves a run going.
+    ErrorKeepsRun,
+    /// A load at place 0 waits for a tick.
+    LoadAtZeroMoves,
+    /// A skip passes the end of the tape.
+    SkipPassesEnd,
+    /// An argument out of range is looked at as a command.
+    OutOfRangeObeyed,
+    /// A reset clears the new mark.
+    ResetClearsNewMark,
+    /// A reset drops the level.
+    ResetDropsLevel,
+    /// Removal while moving is no error.
+    RemovalKeepsError,
+    /// A 7 clears the error before it takes the report's bits.
+    ErrorReportSendsNothing,
+    /// Format and type are sent of a cartridge that is not referenced.
+    TapeStatusUnreferenced,
+}
+
+impl Bug {
+    /// Mistakes in the packet drive.
+    pub const PACKET: [Bug; 20] = [
+        Bug::ResidueCountsFilemark,
+        Bug::WriteKeepsRecorded,
+        Bug::AttentionAfterOpcode,
+        Bug::ProtectionAfterTransfer,
+        Bug::ProtectionAfterBuffer,
+        Bug::SenseClearsAttention,
+        Bug::InquiryKeepsSense,
+        Bug::WarningAtBorder,
+        Bug::EndOfDataShowsEom,
+        Bug::SpaceBackEndsBeyond,
+        Bug::LocateBeyondIsValid,
+        Bug::ReadClearsRest,
+        Bug::FilemarkClearsBlock,
+        Bug::SizeWraps,
+        Bug::NeedWraps,
+        Bug::PositionAtEndRefused,
+        Bug::PageCodeMasked,
+        Bug::WrongListTakesBytes,
+        Bug::ChangeKeepsReset,
+        Bug::RefusalClearsSense,
+    ];
+
+    /// Mistakes in the pulse drive.
+    pub const PULSE: [Bug; 20] = [
+        Bug::RejectedSeekTakesTrack,
+        Bug::ErrorClearedWhileMoving,
+        Bug::RepeatStaysOwed,
+        Bug::WaitCountsOneMore,
+        Bug::TickJumps,
+        Bug::TickKeepsArguments,
+        Bug::TrainsCutToByte,
+        Bug::StatusAskedWhileMoving,
+        Bug::NewMarkClearedUnasked,
+        Bug::LaterErrorWins,
+        Bug::TrackErrorKeepsTrain,
+        Bug::ErrorKeepsRun,
+        Bug::LoadAtZeroMoves,
+        Bug::SkipPassesEnd,
+        Bug::OutOfRangeObeyed,
+        Bug::ResetClearsNewMark,
+        Bug::ResetDropsLevel,
+        Bug::RemovalKeepsError,
+        Bug::ErrorReportSendsNothing,
+        Bug::TapeStatusUnreferenced,
+    ];
+}

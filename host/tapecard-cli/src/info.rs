@@ -1,0 +1,86 @@
+//! `tapecard info`: an image's header in words and its tape as a strip.
+
+use std::io::Write;
+use std::path::Path;
+
+use crate::args::Args;
+use crate::drive::{Drive, Kind};
+use crate::failure::Failure;
+use crate::header::Header;
+use crate::progress::Progress;
+use crate::strip::{self, Tape};
+use crate::{image_file, words};
+
+pub fn run(args: &Args, out: &mut dyn Write) -> Result<(), Failure> {
+    let path = Path::new(args.operand(0, "the image")?);
+    args.at_most(1)?;
+    let mut drive = image_file::load(path)?;
+    let header = Header::read(drive.image())
+        .ok_or_else(|| Failure::work("the image has no header; take another copy"))?;
+    let kinds = survey(&mut drive, &header)?;
+    writeln!(out, "{}", words::shown(path))?;
+    show_header(&header, out)?;
+    show_counts(&kinds, &header, out)?;
+    show_strip(&kinds, &header, out)
+}
+
+fn survey(drive: &mut Drive, header: &Header) -> Result<Vec<Kind>, Failure> {
+    let mut progress = Progress::new("reading", header.recorded.into());
+    drive.survey(|elements| progress.advance(elements))
+}
+
+fn show_header(header: &Header, out: &mut dyn Write) -> Result<(), Failure> {
+    writeln!(out, "  block size     {} bytes", header.block_size)?;
+    writeln!(
+        out,
+        "  capacity       {}",
+        words::count(header.capacity.into(), "element")
+    )?;
+    writeln!(out, "  write protect  {}", words::yes_no(header.protected))?;
+    writeln!(out, "  medium type    {}", header.medium)?;
+    match header.early_warning {
+        0 => writeln!(out, "  early warning  none")?,
+        last => writeln!(
+            out,
+            "  early warning  in the last {}, from place {}",
+            words::count(last.into(), "element"),
+            header.warning_place()
+        )?,
+    }
+    writeln!(
+        out,
+        "  layout         kinds at byte {}, blocks at byte {}",
+        header.kinds_at, header.blocks_at
+    )?;
+    Ok(())
+}
+
+fn show_counts(kinds: &[Kind], header: &Header, out: &mut dyn Write) -> Result<(), Failure> {
+    let count = |kind: Kind| kinds.iter().filter(|k| **k == kind).count() as u64;
+    writeln!(
+        out,
+        "  recorded       {}: {}, {}, {} unreadable; {} blank",
+        words::count(kinds.len() as u64, "element"),
+        words::count(count(Kind::Data), "data block"),
+        words::count(count(Kind::Filemark), "filemark"),
+        count(Kind::Unreadable),
+        (header.capacity as usize).saturating_sub(kinds.len())
+    )?;
+    Ok(())
+}
+
+fn show_strip(kinds: &[Kind], header: &Header, out: &mut dyn Write) -> Result<(), Failure> {
+    let tape = Tape {
+        capacity: header.capacity as usize,
+        kinds,
+        warning: (header.early_warning > 0).then(|| header.warning_place() as usize),
+    };
+    writeln!(out)?;
+    for line in strip::draw(&tape) {
+        writeln!(out, "{line}")?;
+    }
+    writeln!(out)?;
+    writeln!(out, "  {}", strip::LEGEND)?;
+    writeln!(out, "  {}", strip::scale(&tape))?;
+    Ok(())
+}

@@ -1,0 +1,166 @@
+//! `new` and `info`: fresh images, their strip, images that are none.
+
+mod common;
+
+use common::Place;
+
+#[test]
+fn a_fresh_image_has_the_layout_of_the_card() {
+    let place = Place::new();
+    let said = place.run(&[
+        "new",
+        "t.img",
+        "--blocks",
+        "4",
+        "--block-size",
+        "512",
+        "--early-warning",
+        "1",
+        "--medium",
+        "0x81",
+        "--protect",
+    ]);
+    said.is_good("made t.img: 4 elements of 512 bytes, 2084 bytes in all, write protected\n");
+    let mut header = vec![
+        0, 32, 2, 0, 0, 0, 0, 4, 0, 0, 0, 0, 0, 0, 0, 32, 0, 0, 0, 36, 1, 0x81, 0, 1,
+    ];
+    header.resize(32, 0);
+    let image = place.read("t.img");
+    assert_eq!(image[..32], header);
+    assert!(image[32..].iter().all(|b| *b == 0));
+    assert_eq!(place.names(), ["t.img"]);
+}
+
+#[test]
+fn an_image_is_not_overwritten_unless_forced() {
+    let place = Place::new();
+    place.write("t.img", "dear");
+    place.run(&["new", "t.img", "--blocks", "2"]).is_bad(
+        1,
+        "t.img is there already and stays as it is; choose another name, or replace it with --force",
+    );
+    assert_eq!(place.read("t.img"), b"dear");
+    place
+        .run(&["new", "--force", "t.img", "--blocks", "2"])
+        .is_good("made t.img: 2 elements of 1024 bytes, 2082 bytes in all\n");
+}
+
+#[test]
+fn numbers_out_of_range() {
+    let place = Place::new();
+    for (words, sentence) in [
+        (
+            ["--blocks", "0"],
+            "--blocks takes a number from 1 to 65535, not 0",
+        ),
+        (
+            ["--blocks", "65536"],
+            "--blocks takes a number from 1 to 65535, not 65536",
+        ),
+        (
+            ["--blocks", "many"],
+            "--blocks takes a number from 1 to 65535, not many",
+        ),
+        (
+            ["--block-size", "600"],
+            "--block-size is 512 or 1024, not 600",
+        ),
+        (
+            ["--early-warning", "1025"],
+            "--early-warning takes a number from 0 to 1024, not 1025",
+        ),
+        (
+            ["--medium", "256"],
+            "--medium takes a number from 0 to 255, not 256",
+        ),
+    ] {
+        let said = place.run(&["new", "t.img", words[0], words[1]]);
+        said.is_bad(2, &format!("{sentence}; see tapecard new --help"));
+    }
+    assert!(place.names().is_empty());
+}
+
+#[test]
+fn a_directory_that_is_not_there() {
+    Place::new().run(&["new", "no/t.img"]).is_bad(
+        1,
+        "no/t.img could not be written: there is no such file or directory; nothing was changed",
+    );
+}
+
+#[test]
+fn the_strip_of_a_short_tape() {
+    let place = Place::with_image(12, &["--early-warning", "3"]);
+    place.write("a", [7; 1000]);
+    place.run(&["put", "t.img", "a"]);
+    let mut image = place.read("t.img");
+    image[32 + 1] = 9;
+    place.write("t.img", image);
+    place.run(&["info", "t.img"]).is_good(
+        "\
+t.img
+  block size     512 bytes
+  capacity       12 elements
+  write protect  no
+  medium type    0
+  early warning  in the last 3 elements, from place 9
+  layout         kinds at byte 32, blocks at byte 44
+  recorded       4 elements: 2 data blocks, 1 filemark, 1 unreadable; 8 blank
+
+  [#!#|........]
+   ^ position 0
+       ^ end of data, 4
+            ^ early warning, 9
+
+  # data   | filemark   ! unreadable   . blank
+  one cell for each element
+",
+    );
+}
+
+#[test]
+fn the_strip_of_the_longest_tape() {
+    let place = Place::with_image(65_535, &["--early-warning", "0"]);
+    let said = place.run(&["info", "t.img"]);
+    assert_eq!(said.status, 0, "{}", said.err);
+    let blank = format!("  [{}]", ".".repeat(64));
+    said.has_lines(&[
+        "  early warning  none",
+        "  recorded       0 elements: 0 data blocks, 0 filemarks, 0 unreadable; 65535 blank",
+        &blank,
+        "   ^ end of data, 0",
+        "  one cell for about 1024 elements; it shows the first of these that it holds: unreadable, filemark, data",
+    ]);
+}
+
+#[test]
+fn a_truncated_image_is_no_image() {
+    let place = Place::with_image(4, &[]);
+    let image = place.read("t.img");
+    for length in [0, 31, 32, image.len() - 1] {
+        place.write("t.img", &image[..length]);
+        for words in [
+            &["info", "t.img"][..],
+            &["list", "t.img"],
+            &["put", "t.img", "t.img"],
+            &["get", "t.img", "1"],
+        ] {
+            place.run(words).is_bad(
+                1,
+                &format!(
+                    "t.img is no whole cartridge image (refusal 2: image breaks a header rule). The file has {length} \
+                     bytes: it may have been cut short, or be something else. Take another copy, or make a fresh image \
+                     with tapecard new"
+                ),
+            );
+        }
+        assert_eq!(place.read("t.img"), &image[..length]);
+    }
+}
+
+#[test]
+fn a_directory_is_no_image() {
+    Place::new()
+        .run(&["info", "."])
+        .is_bad(1, ". is no plain file; name a cartridge image");
+}

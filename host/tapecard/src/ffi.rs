@@ -1,0 +1,93 @@
+//! The archive's calls, each behind a safe function: the only `unsafe` of this crate.
+//!
+//! The archive asks for pointers to as many bytes as the layouts say, a pointer with its length for a slice, all of them apart from
+//! one another. Rust's references give exactly that, so no caller can break it. No call keeps a pointer after it returns.
+
+mod archive {
+    // SAFETY: these are the signatures of the interface: `&mut [u8; N]` is one pointer, a slice is a pointer and a length.
+    unsafe extern "C" {
+        pub fn tapecard_fresh(record: *mut u8);
+        pub fn tapecard_change(record: *mut u8);
+        pub fn tapecard_packet(
+            record: *mut u8,
+            image: *mut u8,
+            image_length: usize,
+            packet: *const u8,
+            packet_length: usize,
+            data: *mut u8,
+            data_length: usize,
+            answer: *mut u8,
+        );
+        pub fn tapecard_pulse_power_on(record: *mut u8, vendor: u16, rom: u8);
+        pub fn tapecard_pulse_train(record: *mut u8, pulses: u16, answer: *mut u8);
+        pub fn tapecard_pulse_tick(record: *mut u8, answer: *mut u8);
+        pub fn tapecard_pulse_insert(record: *mut u8, cartridge: *const u8, answer: *mut u8);
+        pub fn tapecard_pulse_remove(record: *mut u8, answer: *mut u8);
+        pub fn tapecard_pulse_wait(record: *mut u8, limit: u32, answer: *mut u8);
+    }
+}
+
+pub fn fresh(record: &mut [u8; 16]) {
+    // SAFETY: the call writes 16 bytes at `record`, which is borrowed for that.
+    unsafe { archive::tapecard_fresh(record.as_mut_ptr()) }
+}
+
+pub fn change(record: &mut [u8; 16]) {
+    // SAFETY: the call reads and writes 16 bytes at `record`, which is borrowed for that.
+    unsafe { archive::tapecard_change(record.as_mut_ptr()) }
+}
+
+pub fn packet(
+    record: &mut [u8; 16],
+    image: &mut [u8],
+    packet: &[u8],
+    data: &mut [u8],
+    answer: &mut [u8; 16],
+) {
+    // SAFETY: each slice goes over with its own length, record and answer have 16 bytes, `packet` is only read, and the borrows
+    // keep the five apart.
+    unsafe {
+        archive::tapecard_packet(
+            record.as_mut_ptr(),
+            image.as_mut_ptr(),
+            image.len(),
+            packet.as_ptr(),
+            packet.len(),
+            data.as_mut_ptr(),
+            data.len(),
+            answer.as_mut_ptr(),
+        )
+    }
+}
+
+pub fn pulse_power_on(record: &mut [u8; 32], vendor: u16, rom: u8) {
+    // SAFETY: the call writes 32 bytes at `record`, which is borrowed for that.
+    unsafe { archive::tapecard_pulse_power_on(record.as_mut_ptr(), vendor, rom) }
+}
+
+pub fn pulse_train(record: &mut [u8; 32], pulses: u16, answer: &mut [u8; 8]) {
+    // SAFETY: the record has 32 bytes and the answer 8, borrowed apart for reading and writing.
+    unsafe { archive::tapecard_pulse_train(record.as_mut_ptr(), pulses, answer.as_mut_ptr()) }
+}
+
+pub fn pulse_tick(record: &mut [u8; 32], answer: &mut [u8; 8]) {
+    // SAFETY: the record has 32 bytes and the answer 8, borrowed apart for reading and writing.
+    unsafe { archive::tapecard_pulse_tick(record.as_mut_ptr(), answer.as_mut_ptr()) }
+}
+
+pub fn pulse_insert(record: &mut [u8; 32], cartridge: &[u8; 8], answer: &mut [u8; 8]) {
+    // SAFETY: the record has 32 bytes, the answer 8, borrowed apart; the description has 8 and is only read.
+    unsafe {
+        archive::tapecard_pulse_insert(record.as_mut_ptr(), cartridge.as_ptr(), answer.as_mut_ptr())
+    }
+}
+
+pub fn pulse_remove(record: &mut [u8; 32], answer: &mut [u8; 8]) {
+    // SAFETY: the record has 32 bytes and the answer 8, borrowed apart for reading and writing.
+    unsafe { archive::tapecard_pulse_remove(record.as_mut_ptr(), answer.as_mut_ptr()) }
+}
+
+pub fn pulse_wait(record: &mut [u8; 32], limit: u32, answer: &mut [u8; 8]) {
+    // SAFETY: the record has 32 bytes and the answer 8, borrowed apart for reading and writing.
+    unsafe { archive::tapecard_pulse_wait(record.as_mut_ptr(), limit, answer.as_mut_ptr()) }
+}

@@ -1,0 +1,120 @@
+//! The packet drive through its typed interface.
+
+use tapecard::packet::{Answer, Attention, CHECK_CONDITION, GOOD, Record, Sense, packet};
+use tapecard::{Refusal, sense_words};
+
+/// C 4, B 512, W 0, kinds 1 2 1, U 3.
+fn image() -> Vec<u8> {
+    let mut image = vec![0; 36 + 4 * 512];
+    image[1] = 32;
+    image[2] = 2;
+    image[7] = 4;
+    image[11] = 3;
+    image[15] = 32;
+    image[19] = 36;
+    image[32..35].copy_from_slice(&[1, 2, 1]);
+    for (element, block) in image[36..].chunks_mut(512).enumerate() {
+        block.fill(0xB0 + element as u8);
+    }
+    image
+}
+
+fn told_of_the_reset(image: &mut [u8]) -> Record {
+    let mut record = Record::fresh();
+    let answer = packet(&mut record, image, &[0; 12], &mut []).expect("a whole packet");
+    assert_eq!(answer.status, CHECK_CONDITION);
+    let told = sense_words::sense(&record.sense());
+    assert_eq!(told, "UNIT ATTENTION: power on or reset (6/29/00)");
+    record
+}
+
+fn read_2() -> [u8; 12] {
+    [0x08, 1, 0, 0, 2, 0, 0, 0, 0, 0, 0, 0]
+}
+
+#[test]
+fn a_fresh_record() {
+    let record = Record::fresh();
+    assert_eq!(record.position(), 0);
+    assert!(record.loaded());
+    assert_eq!(record.attention(), Attention::Reset);
+    assert_eq!(record.speed(), 0);
+    assert_eq!(record.sense(), Sense::default());
+}
+
+#[test]
+fn a_changed_cartridge() {
+    let mut record = Record::fresh();
+    record.0[7] = 250;
+    record.change();
+    assert_eq!(record.attention(), Attention::MediumChanged);
+    assert_eq!(record.speed(), 250);
+}
+
+#[test]
+fn two_reads_and_their_sense() {
+    let mut image = image();
+    let mut record = told_of_the_reset(&mut image);
+    let mut room = [0x55; 1024];
+    let answer = packet(&mut record, &mut image, &read_2(), &mut room);
+    let one_block = Answer {
+        status: CHECK_CONDITION,
+        blocks: 1,
+        bytes: 512,
+    };
+    assert_eq!(answer, Ok(one_block));
+    assert_eq!(record.position(), 2);
+    assert_eq!(room[..512], [0xB0; 512]);
+    assert_eq!(room[512..], [0x55; 512]);
+    let filemark = Sense {
+        ascq: 1,
+        filemark: true,
+        valid: true,
+        information: 1,
+        ..Sense::default()
+    };
+    assert_eq!(record.sense(), filemark);
+
+    let answer = packet(&mut record, &mut image, &read_2(), &mut room);
+    assert_eq!(answer, Ok(one_block));
+    assert_eq!(room[..512], [0xB2; 512]);
+    let told = sense_words::sense(&record.sense());
+    assert_eq!(told, "BLANK CHECK: end of data (8/00/05), residue 1");
+}
+
+#[test]
+fn refused_packets_change_nothing() {
+    let mut image = image();
+    let mut record = told_of_the_reset(&mut image);
+    let before = (record, image.clone());
+    let cut = packet(&mut record, &mut image, &[0; 11], &mut []);
+    assert_eq!(cut, Err(Refusal { number: 1 }));
+    let mut short = [0x55; 1023];
+    let refused = packet(&mut record, &mut image, &read_2(), &mut short);
+    assert_eq!(refused, Err(Refusal { number: 4 }));
+    assert_eq!(short, [0x55; 1023]);
+    assert_eq!((record, image.clone()), before);
+    let mut damaged = image.clone();
+    damaged[31] = 1;
+    let refused = packet(&mut record, &mut damaged, &[0; 12], &mut []);
+    assert_eq!(refused, Err(Refusal { number: 2 }));
+    let mut lost = Record::fresh();
+    lost.0[3] = 4;
+    let refused = packet(&mut lost, &mut image, &[0; 12], &mut []);
+    assert_eq!(refused, Err(Refusal { number: 3 }));
+}
+
+#[test]
+fn a_speed_is_selected() {
+    let mut image = image();
+    let mut record = told_of_the_reset(&mut image);
+    let mut list = [0; 32];
+    list[12] = 0x2A;
+    list[13] = 0x12;
+    list[27] = 125;
+    let select = [0x15, 0, 0, 0, 32, 0, 0, 0, 0, 0, 0, 0];
+    let answer = packet(&mut record, &mut image, &select, &mut list).expect("a right list");
+    assert_eq!((answer.status, answer.bytes), (GOOD, 32));
+    assert!(answer.is_good());
+    assert_eq!(record.speed(), 125);
+}

@@ -1,0 +1,129 @@
+//! The pulse drive through its typed interface.
+
+use tapecard::Refusal;
+use tapecard::pulse::{Cartridge, Level, Motion, Record, Waited};
+
+const CARTRIDGE: Cartridge = Cartridge {
+    segments: 600,
+    tracks: 28,
+    place: 40,
+    protected: true,
+    burst: true,
+    wide: false,
+    format: 2,
+    kind: 3,
+};
+
+fn trains(record: &mut Record, trains: &[u16]) -> Vec<Level> {
+    let send = |&pulses| record.train(pulses).expect("a train of the drive");
+    trains.iter().map(send).collect()
+}
+
+fn recovered() -> Record {
+    let mut record = Record::power_on(0x0157, 0x17);
+    record.insert(&CARTRIDGE).expect("an empty drive");
+    record.wait(u32::MAX).expect("a good record");
+    trains(&mut record, &[2; 18]);
+    trains(&mut record, &[6]);
+    trains(&mut record, &[2; 9]);
+    trains(&mut record, &[7]);
+    trains(&mut record, &[2; 17]);
+    record
+}
+
+#[test]
+fn power_on() {
+    let record = Record::power_on(0xABCD, 0xEF);
+    assert_eq!((record.vendor(), record.rom()), (0xABCD, 0xEF));
+    assert_eq!((record.error(), record.error_command()), (26, 0));
+    assert_eq!((record.rate(), record.level()), (2, Level(false)));
+    assert_eq!(record.cartridge(), None);
+    assert!(record.ready());
+}
+
+#[test]
+fn insertion_loads() {
+    let mut record = Record::power_on(0, 0);
+    assert_eq!(record.insert(&CARTRIDGE), Ok(Level(false)));
+    assert_eq!(record.cartridge(), Some(CARTRIDGE));
+    assert_eq!((record.place(), record.target()), (40, 0));
+    assert_eq!((record.motion(), record.distance()), (Motion::Load, 40));
+    assert!(record.new_mark() && !record.referenced() && !record.status_asked());
+    assert_eq!(record.tick(), Ok(Level(false)));
+    let waited = record.wait(10);
+    assert_eq!(
+        waited,
+        Ok(Waited {
+            level: Level(false),
+            ticks: 10
+        })
+    );
+    assert_eq!(record.place(), 29);
+    assert_eq!(record.wait(100).map(|waited| waited.ticks), Ok(29));
+    assert!(record.ready() && record.referenced());
+}
+
+#[test]
+fn recovery_then_a_skip() {
+    let mut record = recovered();
+    assert_eq!(record.error(), 0);
+    assert!(!record.new_mark() && record.status_asked());
+    trains(&mut record, &[35, 14]);
+    assert_eq!((record.waiting_code(), record.arguments_held()), (35, 1));
+    assert_eq!(record.argument_value(), 12);
+    trains(&mut record, &[4, 3]);
+    assert_eq!((record.motion(), record.target()), (Motion::Run, 300));
+    assert_eq!(record.waiting_code(), 0);
+}
+
+#[test]
+fn a_report_bit_by_bit() {
+    let mut record = recovered();
+    assert_eq!(record.train(9), Ok(Level(true)));
+    assert_eq!((record.report_left(), record.report_bits()), (9, 0x17));
+    trains(&mut record, &[2, 36]);
+    assert_eq!((record.report_left(), record.report_bits()), (8, 0x0B));
+    assert!(record.repeat_owed());
+    trains(&mut record, &[2; 9]);
+    assert_eq!((record.report_left(), record.report_bits()), (0, 0));
+    assert_eq!(record.level().to_string(), "1");
+}
+
+#[test]
+fn a_seek_sets_the_track() {
+    let mut record = recovered();
+    trains(&mut record, &[13, 29]);
+    assert_eq!(record.track(), 27);
+    trains(&mut record, &[13, 30]);
+    assert_eq!((record.error(), record.error_command()), (7, 13));
+}
+
+#[test]
+fn refused_calls_change_nothing() {
+    let mut record = recovered();
+    let before = record;
+    assert_eq!(record.train(0), Err(Refusal { number: 5 }));
+    assert_eq!(record.insert(&CARTRIDGE), Err(Refusal { number: 7 }));
+    assert_eq!(record, before);
+    let mut empty = Record::power_on(0, 0);
+    assert_eq!(empty.remove(), Err(Refusal { number: 7 }));
+    let wrong = Cartridge {
+        segments: 0,
+        ..CARTRIDGE
+    };
+    assert_eq!(empty.insert(&wrong), Err(Refusal { number: 6 }));
+    empty.0[14] = 99;
+    assert_eq!(empty.tick(), Err(Refusal { number: 8 }));
+}
+
+#[test]
+fn removal_empties_the_drive() {
+    let mut record = recovered();
+    trains(&mut record, &[12]);
+    assert_eq!(record.remove(), Ok(Level(true)));
+    assert_eq!((record.error(), record.error_command()), (2, 0));
+    assert_eq!(record.cartridge(), None);
+    assert_eq!((record.segments(), record.tracks()), (0, 0));
+    assert!(!record.protected() && !record.burst() && !record.wide());
+    assert_eq!((record.format(), record.kind()), (0, 0));
+}

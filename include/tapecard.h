@@ -1,0 +1,184 @@
+/*
+ * The drive card: a packet tape drive and a pulse tape drive, proved, over byte records that the caller keeps.
+ *
+ * Link target/staticlib/libtapecard.a, which `rt staticlib tapecard` makes. C99 and C++.
+ *
+ * - Numbers of several bytes in records, images, packets and answers are big-endian.
+ * - Every call takes every input: no bytes, lengths or numbers are forbidden.
+ * - A refused call (its answer's number is not 0) writes its answer and changes nothing else.
+ * - Every pointer must be a valid one, also where its length is 0, and the buffers of one call must not overlap.
+ *   No call keeps a pointer after it returns.
+ */
+#ifndef TAPECARD_H
+#define TAPECARD_H
+
+#include <stddef.h>
+#include <stdint.h>
+
+#ifdef __cplusplus
+extern "C" {
+#endif
+
+/* ---- Refusal numbers, byte 0 of every answer ---- */
+
+#define TAPECARD_ACCEPTED 0             /* the call was made */
+#define TAPECARD_REFUSED_PACKET 1       /* packet is not 12 bytes */
+#define TAPECARD_REFUSED_IMAGE 2        /* image breaks a header rule */
+#define TAPECARD_REFUSED_RECORD 3       /* packet record has P > U, a speed outside the five, or a sense key above 15 */
+#define TAPECARD_REFUSED_BUFFER 4       /* data buffer is shorter than this transfer needs */
+#define TAPECARD_REFUSED_TRAIN 5        /* a train of 0 pulses */
+#define TAPECARD_REFUSED_CARTRIDGE 6    /* cartridge description outside its ranges */
+#define TAPECARD_REFUSED_INSERTION 7    /* insertion with a cartridge in, or removal with none */
+#define TAPECARD_REFUSED_PULSE_RECORD 8 /* pulse record breaks the record rules */
+
+/* ---- The cartridge image: a header, a table of kinds, the blocks ---- */
+
+#define TAPECARD_IMAGE_HEADER_LENGTH 32 /* bytes of the header */
+#define TAPECARD_IMAGE_LENGTH_AT 0      /* 2 bytes: the header's length, 32 */
+#define TAPECARD_IMAGE_BLOCK_SIZE_AT 2  /* 2 bytes: block size B, 512 or 1024 */
+#define TAPECARD_IMAGE_CAPACITY_AT 4    /* 4 bytes: capacity C, 1 to 65,535 elements */
+#define TAPECARD_IMAGE_RECORDED_AT 8    /* 4 bytes: recorded U, at most C */
+#define TAPECARD_IMAGE_KINDS_AT 12      /* 4 bytes: offset K of the kind table, K >= 32 */
+#define TAPECARD_IMAGE_BLOCKS_AT 16     /* 4 bytes: offset D of the blocks, K + C <= D, D + C*B <= image length */
+#define TAPECARD_IMAGE_PROTECT_AT 20    /* 1 byte: write protect, 0 or 1 */
+#define TAPECARD_IMAGE_MEDIUM_AT 21     /* 1 byte: medium type, any */
+#define TAPECARD_IMAGE_WARNING_AT 22    /* 2 bytes: early warning W, at most C; bytes 24-31 are zero */
+#define TAPECARD_KIND_DATA 1            /* an element that is a block */
+#define TAPECARD_KIND_FILEMARK 2        /* an element that is a filemark; every other kind is an unreadable block */
+
+/* ---- The packet drive ---- */
+
+#define TAPECARD_PACKET_LENGTH 12        /* bytes of a packet */
+#define TAPECARD_PACKET_RECORD_LENGTH 16 /* bytes of the packet drive's record */
+#define TAPECARD_PACKET_ANSWER_LENGTH 16 /* bytes of a packet's answer */
+
+/* The record. */
+#define TAPECARD_POSITION_AT 0       /* 4 bytes: position P */
+#define TAPECARD_LOADED_AT 4         /* 1 byte: bit 0, a cartridge is loaded */
+#define TAPECARD_ATTENTION_AT 5      /* 1 byte: the pending attention */
+#define TAPECARD_SPEED_AT 6          /* 2 bytes: speed, 0, 62, 125, 250 or 500 */
+#define TAPECARD_SENSE_KEY_AT 8      /* 1 byte: sense key, at most 15 */
+#define TAPECARD_SENSE_ASC_AT 9      /* 1 byte: additional sense code */
+#define TAPECARD_SENSE_ASCQ_AT 10    /* 1 byte: its qualifier */
+#define TAPECARD_SENSE_FLAGS_AT 11   /* 1 byte: the three bits below */
+#define TAPECARD_INFORMATION_AT 12   /* 4 bytes: information, the residue where it is valid */
+#define TAPECARD_ATTENTION_NONE 0    /* nothing to tell */
+#define TAPECARD_ATTENTION_CHANGED 1 /* the medium was changed */
+#define TAPECARD_ATTENTION_RESET 2   /* the drive was reset */
+#define TAPECARD_SENSE_VALID 0x01    /* the information is valid */
+#define TAPECARD_SENSE_EOM 0x02      /* end of medium */
+#define TAPECARD_SENSE_FILEMARK 0x04 /* a filemark was met */
+
+/* The answer. */
+#define TAPECARD_ANSWER_NUMBER_AT 0     /* 1 byte: refusal number, 0 for none; in pulse answers too */
+#define TAPECARD_ANSWER_STATUS_AT 1     /* 1 byte: status */
+#define TAPECARD_ANSWER_BLOCKS_AT 4     /* 4 bytes: elements copied or stored, filemarks too */
+#define TAPECARD_ANSWER_BYTES_AT 8      /* 4 bytes: bytes filled or taken in the data buffer */
+#define TAPECARD_STATUS_GOOD 0          /* ended well */
+#define TAPECARD_STATUS_CHECK_CONDITION 2 /* the record's sense tells more */
+
+/* Opcodes, byte 0 of a packet. */
+#define TAPECARD_TEST_UNIT_READY 0x00 /* GOOD where a cartridge is loaded */
+#define TAPECARD_REWIND 0x01          /* P = 0 */
+#define TAPECARD_REQUEST_SENSE 0x03   /* first min(byte 4, 20) bytes of the sense, which is then cleared */
+#define TAPECARD_READ 0x08            /* byte 1 is 1, N blocks in bytes 2-4 */
+#define TAPECARD_WRITE 0x0A           /* byte 1 is 1, N blocks in bytes 2-4 */
+#define TAPECARD_WRITE_FILEMARK 0x10  /* N filemarks in bytes 2-4 */
+#define TAPECARD_SPACE 0x11           /* byte 1: 0 blocks, 1 filemarks, 3 end of data; signed count in bytes 2-4 */
+#define TAPECARD_INQUIRY 0x12         /* first min(byte 4, 36) bytes of who the drive is */
+#define TAPECARD_MODE_SELECT 0x15     /* list of byte 4 bytes, 0, 12 or 32, sets the speed */
+#define TAPECARD_MODE_SENSE 0x1A      /* page in byte 2, 00h or 2Ah, first min(byte 4, 12 or 32) bytes */
+#define TAPECARD_LOAD_UNLOAD 0x1B     /* byte 4: load 1, retension 2, EOT 4 */
+#define TAPECARD_LOCATE 0x2B          /* P = bytes 3-6 */
+#define TAPECARD_READ_POSITION 0x34   /* 20 bytes that tell P */
+
+/* Makes a fresh record: position 0, loaded, attention reset, speed 0, no sense. */
+void tapecard_fresh(uint8_t record[TAPECARD_PACKET_RECORD_LENGTH]);
+
+/* Another cartridge is in: position 0, loaded, attention medium changed, no sense; the speed stays. */
+void tapecard_change(uint8_t record[TAPECARD_PACKET_RECORD_LENGTH]);
+
+/* Answers one packet over a cartridge image; a transfer fills or takes the first bytes of `data`. */
+void tapecard_packet(uint8_t record[TAPECARD_PACKET_RECORD_LENGTH], uint8_t *image, size_t image_length,
+                     const uint8_t *packet, size_t packet_length, uint8_t *data, size_t data_length,
+                     uint8_t answer[TAPECARD_PACKET_ANSWER_LENGTH]);
+
+/* ---- The pulse drive ---- */
+
+#define TAPECARD_PULSE_RECORD_LENGTH 32 /* bytes of the pulse drive's record */
+#define TAPECARD_PULSE_ANSWER_LENGTH 8  /* bytes of a pulse call's answer */
+#define TAPECARD_CARTRIDGE_LENGTH 8     /* bytes of a cartridge description */
+
+/* The record. */
+#define TAPECARD_PULSE_FLAGS_AT 0          /* 1 byte: the five bits below */
+#define TAPECARD_PULSE_MOTION_AT 1         /* 1 byte: how the tape moves */
+#define TAPECARD_PULSE_SEGMENTS_AT 2       /* 2 bytes: segments G of the cartridge, 1-4095 */
+#define TAPECARD_PULSE_TRACKS_AT 4         /* 1 byte: tracks of the cartridge, 1-64 */
+#define TAPECARD_PULSE_CARTRIDGE_AT 5      /* 1 byte: the cartridge's flags */
+#define TAPECARD_PULSE_FORMAT_AT 6         /* 1 byte: tape format, 0-4 */
+#define TAPECARD_PULSE_TYPE_AT 7           /* 1 byte: tape type, 0-7 */
+#define TAPECARD_PULSE_PLACE_AT 8          /* 2 bytes: place S, 0 to G */
+#define TAPECARD_PULSE_TARGET_AT 10        /* 2 bytes: target, 0 to G; moving exactly when it is not S */
+#define TAPECARD_PULSE_TRACK_AT 12         /* 1 byte: track */
+#define TAPECARD_PULSE_RATE_AT 13          /* 1 byte: rate, 0-3 */
+#define TAPECARD_PULSE_ERROR_AT 14         /* 1 byte: held error, 0 for none */
+#define TAPECARD_PULSE_ERROR_COMMAND_AT 15 /* 1 byte: the error's command */
+#define TAPECARD_PULSE_LEVEL_AT 16         /* 1 byte: bit 0, the level */
+#define TAPECARD_PULSE_REPORT_LEFT_AT 17   /* 1 byte: report items left, 0 where no report is open */
+#define TAPECARD_PULSE_REPORT_BITS_AT 18   /* 2 bytes: report bits not sent yet, the next one lowest */
+#define TAPECARD_PULSE_WAITING_AT 20       /* 1 byte: code whose arguments are waited for, 0 for none */
+#define TAPECARD_PULSE_HELD_AT 21          /* 1 byte: arguments held */
+#define TAPECARD_PULSE_VALUE_AT 22         /* 2 bytes: value of the arguments held, the first nibble lowest */
+#define TAPECARD_PULSE_VENDOR_AT 24        /* 2 bytes: vendor */
+#define TAPECARD_PULSE_ROM_AT 26           /* 1 byte: ROM version; bytes 27-31 are zero */
+#define TAPECARD_PULSE_CARTRIDGE_IN 0x01   /* flag: a cartridge is in */
+#define TAPECARD_PULSE_REFERENCED 0x02     /* flag: the cartridge is referenced */
+#define TAPECARD_PULSE_NEW_MARK 0x04       /* flag: the cartridge is new */
+#define TAPECARD_PULSE_STATUS_ASKED 0x08   /* flag: status was asked while ready */
+#define TAPECARD_PULSE_REPEAT_OWED 0x10    /* flag: the next 2 repeats the last level */
+#define TAPECARD_PULSE_STILL 0             /* motion: none */
+#define TAPECARD_PULSE_RUN 1               /* motion: to the target */
+#define TAPECARD_PULSE_LOAD 2              /* motion: to place 0 as a load, which nothing stops */
+
+/* The cartridge description. */
+#define TAPECARD_CARTRIDGE_SEGMENTS_AT 0  /* 2 bytes: segments G, 1-4095 */
+#define TAPECARD_CARTRIDGE_TRACKS_AT 2    /* 1 byte: tracks, 1-64 */
+#define TAPECARD_CARTRIDGE_PLACE_AT 3     /* 2 bytes: place S, 0 to G */
+#define TAPECARD_CARTRIDGE_FLAGS_AT 5     /* 1 byte: the three bits below */
+#define TAPECARD_CARTRIDGE_FORMAT_AT 6    /* 1 byte: tape format, 0-4 */
+#define TAPECARD_CARTRIDGE_TYPE_AT 7      /* 1 byte: tape type, 0-7 */
+#define TAPECARD_CARTRIDGE_PROTECTED 0x01 /* flag: write protected */
+#define TAPECARD_CARTRIDGE_BURST 0x02     /* flag: a reference burst is present */
+#define TAPECARD_CARTRIDGE_WIDE 0x04      /* flag: wide tape */
+
+/* The answer: number in byte 0 as above. */
+#define TAPECARD_PULSE_ANSWER_LEVEL_AT 1 /* 1 byte: the level after the call */
+#define TAPECARD_PULSE_ANSWER_TICKS_AT 4 /* 4 bytes: ticks used, 0 but for the wait call */
+
+/* Makes the record of a drive just switched on: no cartridge, error 26. */
+void tapecard_pulse_power_on(uint8_t record[TAPECARD_PULSE_RECORD_LENGTH], uint16_t vendor, uint8_t rom);
+
+/* Sends one train of pulses. */
+void tapecard_pulse_train(uint8_t record[TAPECARD_PULSE_RECORD_LENGTH], uint16_t pulses,
+                          uint8_t answer[TAPECARD_PULSE_ANSWER_LENGTH]);
+
+/* Lets one tick pass: a moving tape goes one segment toward its target. */
+void tapecard_pulse_tick(uint8_t record[TAPECARD_PULSE_RECORD_LENGTH], uint8_t answer[TAPECARD_PULSE_ANSWER_LENGTH]);
+
+/* Puts a cartridge in, which starts a load. */
+void tapecard_pulse_insert(uint8_t record[TAPECARD_PULSE_RECORD_LENGTH],
+                           const uint8_t cartridge[TAPECARD_CARTRIDGE_LENGTH],
+                           uint8_t answer[TAPECARD_PULSE_ANSWER_LENGTH]);
+
+/* Takes the cartridge out. */
+void tapecard_pulse_remove(uint8_t record[TAPECARD_PULSE_RECORD_LENGTH], uint8_t answer[TAPECARD_PULSE_ANSWER_LENGTH]);
+
+/* Ticks until the drive is ready, at most `limit` times, and counts the ticks. */
+void tapecard_pulse_wait(uint8_t record[TAPECARD_PULSE_RECORD_LENGTH], uint32_t limit,
+                         uint8_t answer[TAPECARD_PULSE_ANSWER_LENGTH]);
+
+#ifdef __cplusplus
+}
+#endif
+
+#endif

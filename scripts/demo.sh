@@ -1,0 +1,86 @@
+#!/usr/bin/env bash
+# A walk through the drive card in under a minute: glyphs on a tape and back, a READ that stops, a cut packet, a lost drive.
+# Run by `make demo`, after the archive and the command are built. TAPECARD may name another build of the command.
+set -euo pipefail
+cd "$(dirname "$0")/.."
+. scripts/host-env.sh
+
+command=${TAPECARD:-$PWD/host/$TAPECARD_BIN/tapecard}
+if [ ! -x "$command" ]; then
+    echo "demo: $command is not built; run make demo" >&2
+    exit 1
+fi
+# TAPECARD_RUN is the emulator's word where the archive is for another processor.
+tapecard() { $TAPECARD_RUN "$command" "$@"; }
+
+place=$(mktemp -d)
+trap 'rm -rf "$place"' EXIT
+cd "$place"
+
+heading() { printf '\n== %s\n' "$*"; }
+run() {
+    printf '\n$ tapecard %s\n' "$*"
+    tapecard "$@"
+}
+
+# Glyphs of a script as pictures of 8 by 8 dots, the same in every run.
+glyphs() { # first code point, last code point, seed
+    local code row column dots=$3
+    for ((code = $1; code <= $2; code++)); do
+        printf 'U+%04X\n' "$code"
+        for ((row = 0; row < 8; row++)); do
+            local line=
+            for ((column = 0; column < 8; column++)); do
+                dots=$(((dots * 1103515245 + 12345) % 2147483648))
+                if ((dots / 65536 % 3 == 0)); then line+='#'; else line+='.'; fi
+            done
+            echo "$line"
+        done
+    done
+}
+
+heading "Two scripts' glyphs go onto a cartridge and come back"
+glyphs 0x0E01 0x0E2E 1 >thai.glyphs
+glyphs 0x1680 0x169C 2 >ogham.glyphs
+run new scripts.img --blocks 40 --block-size 512 --early-warning 4
+run put scripts.img thai.glyphs ogham.glyphs
+run list scripts.img
+run info scripts.img
+run get scripts.img 1 -o thai.back
+run get scripts.img 2 -o ogham.back
+cmp thai.glyphs thai.back
+cmp ogham.glyphs ogham.back
+echo "both files are the same, byte for byte"
+
+heading "A READ of 40 blocks stops at the first script's filemark and says how many are missing"
+run packet scripts.img --out blocks.bin 08 01 00 00 28 00 00 00 00 00 00 00
+
+heading "A packet that lost its last byte is refused, and nothing changes"
+tapecard packet scripts.img --record drive.record 00 00 00 00 00 00 00 00 00 00 00 00 >drive.log
+sha256sum scripts.img drive.record >before.sums
+if run packet scripts.img --record drive.record 0A 01 00 00 01 00 00 00 00 00 00; then
+    echo "demo: the cut packet was not refused" >&2
+    exit 1
+fi
+sha256sum -c before.sums
+
+heading "A workstation loses its pulse drive in the middle of a report"
+printf '\n$ tapecard pulse --record pulse.record\n'
+tapecard pulse --record pulse.record <<'LINES'
+insert segments=207 tracks=28 place=3 burst format=2 type=1
+wait 207
+ask 6
+ask 7
+26 7 4       # skip 37 segments forward
+wait 207
+14           # back to the load point
+tick 10
+10           # too early: the tape still moves
+7            # what went wrong?
+2 x5         # here the workstation stops listening
+LINES
+
+heading "Forty-six trains bring it back"
+run recover --record pulse.record
+
+heading "Done"
