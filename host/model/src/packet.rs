@@ -256,18 +256,18 @@ struct Reply {
 
 impl Reply {
     fn refused(number: u8) -> Reply {
-        Reply::check(Ending::Refused(number), Sense::ZERO)
+        Reply::ended(Ending::Refused(number), Sense::ZERO)
     }
 
     fn good() -> Reply {
-        Reply::check(Ending::Good, Sense::ZERO)
+        Reply::ended(Ending::Good, Sense::ZERO)
     }
 
     fn filled(bytes: usize) -> Reply {
         Reply::good().with_bytes(bytes as u32)
     }
 
-    fn check(ending: Ending, sense: Sense) -> Reply {
+    fn ended(ending: Ending, sense: Sense) -> Reply {
         Reply {
             ending,
             sense,
@@ -310,16 +310,16 @@ impl Reply {
 }
 
 fn bad_field() -> Reply {
-    Reply::check(Ending::BadField, Sense::of(5, 0x24, 0))
+    Reply::ended(Ending::BadField, Sense::of(5, 0x24, 0))
 }
 
 fn at_filemark(residue: u32) -> Reply {
     let sense = Sense::of(0, 0, 1).with_filemark().with_residue(residue);
-    Reply::check(Ending::AtFilemark, sense)
+    Reply::ended(Ending::AtFilemark, sense)
 }
 
 fn at_end_of_data(residue: u32) -> Reply {
-    Reply::check(
+    Reply::ended(
         Ending::AtEndOfData,
         Sense::of(8, 0, 5).with_residue(residue),
     )
@@ -350,13 +350,13 @@ impl Drive<'_> {
             return self.tell_attention();
         }
         if !self.opcode_is_known() {
-            return Reply::check(Ending::UnknownOpcode, Sense::of(5, 0x20, 0));
+            return Reply::ended(Ending::UnknownOpcode, Sense::of(5, 0x20, 0));
         }
         if let Some(reply) = self.wrong_field() {
             return reply;
         }
         if !self.state.loaded && self.needs_cartridge() {
-            return Reply::check(Ending::NotLoaded, Sense::of(2, 0x3A, 0));
+            return Reply::ended(Ending::NotLoaded, Sense::of(2, 0x3A, 0));
         }
         self.protection_and_after(&mut header)
     }
@@ -415,9 +415,9 @@ impl Drive<'_> {
         let changed = self.state.attention == Attention::MediumChanged;
         self.state.attention = Attention::None;
         if changed {
-            Reply::check(Ending::MediumChanged, Sense::of(6, 0x28, 0))
+            Reply::ended(Ending::MediumChanged, Sense::of(6, 0x28, 0))
         } else {
-            Reply::check(Ending::WasReset, Sense::of(6, 0x29, 0))
+            Reply::ended(Ending::WasReset, Sense::of(6, 0x29, 0))
         }
     }
 
@@ -437,7 +437,7 @@ impl Drive<'_> {
             MODE_SENSE => ![0x00, 0x2A].contains(&self.page_code()),
             // "list length (byte 4, a field) 0, 12 or 32, else 5/1A/00."
             MODE_SELECT if ![0, 12, 32].contains(&byte_4) => {
-                return Some(Reply::check(Ending::BadListLength, Sense::of(5, 0x1A, 0)));
+                return Some(Reply::ended(Ending::BadListLength, Sense::of(5, 0x1A, 0)));
             }
             // "byte 4 load 1, retension 2, EOT 4. Load with EOT 24/00."
             LOAD_UNLOAD => byte_4 & 1 != 0 && byte_4 & 4 != 0,
@@ -507,7 +507,7 @@ impl Drive<'_> {
 
     // "bytes are those filled or taken in the data buffer, 0 for a wrong list."
     fn wrong_list(&self) -> Reply {
-        let reply = Reply::check(Ending::BadList, Sense::of(5, 0x26, 0));
+        let reply = Reply::ended(Ending::BadList, Sense::of(5, 0x26, 0));
         if self.bug == Bug::WrongListTakesBytes {
             return reply.with_bytes(u32::from(self.packet[4]));
         }
@@ -585,7 +585,7 @@ impl Drive<'_> {
                 }
                 Kind::Unreadable => {
                     let sense = Sense::of(3, 0x11, 0).with_residue(residue);
-                    reply = Reply::check(Ending::AtUnreadable, sense);
+                    reply = Reply::ended(Ending::AtUnreadable, sense);
                     break;
                 }
             }
@@ -613,10 +613,10 @@ impl Drive<'_> {
         let reply = if full {
             let sense = Sense::of(0xD, 0, 2).with_eom();
             let residue = self.count() - stored;
-            Reply::check(Ending::CartridgeFull, sense.with_residue(residue))
+            Reply::ended(Ending::CartridgeFull, sense.with_residue(residue))
         } else if stored >= 1 && self.past_early_warning(header) {
             let sense = Sense::of(0, 0, 2).with_eom().with_residue(0);
-            Reply::check(Ending::EarlyWarning, sense)
+            Reply::ended(Ending::EarlyWarning, sense)
         } else {
             Reply::good()
         };
@@ -697,7 +697,7 @@ impl Drive<'_> {
                     at_end_of_data(residue)
                 } else {
                     let sense = Sense::of(0, 0, 4).with_eom().with_residue(residue);
-                    Reply::check(Ending::AtBeginning, sense)
+                    Reply::ended(Ending::AtBeginning, sense)
                 };
             };
             match (code, kind) {
@@ -768,7 +768,7 @@ impl Drive<'_> {
             self.state.position = header.recorded;
             let mut sense = Sense::of(8, 0, 5);
             sense.valid = self.bug == Bug::LocateBeyondIsValid;
-            return Reply::check(Ending::LocatedBeyond, sense);
+            return Reply::ended(Ending::LocatedBeyond, sense);
         }
         self.state.position = target;
         Reply::good()
@@ -792,7 +792,7 @@ impl Drive<'_> {
 }
 
 fn write_protected() -> Reply {
-    Reply::check(Ending::Protected, Sense::of(7, 0x27, 0))
+    Reply::ended(Ending::Protected, Sense::of(7, 0x27, 0))
 }
 
 // "Byte 0 is 70h, F0h when valid; 2: filemark 80h, EOM 40h, key in the low four bits; 3-6 information; 7 is 0Ch, also when
