@@ -17,7 +17,7 @@ add-put-count4 : tie.Need-add-put-count4
 add-put-count4 c = search needs
 
 put-count4-requires : tie.Need-put-count4-requires
-put-count4-requires c κs = search needs
+put-count4-requires c κs = simp length-set (omega arith)
 
 same-length : tie.Need-same-length
 same-length c = omega (arith, simp length-set at (c .before .before .put-count4 .kept .0))
