@@ -55,10 +55,10 @@ pub record FitsRecord (st : State) : Type 0 where
 abbrev pub StateKeptByCycle : Type 0
 StateKeptByCycle = (st : State) → FitsRecord st → decodeState (encodeState st) ≡ st
 
--- and every record that is read fits
 abbrev pub Bytes : List ℕ → Type 0
 Bytes s = (i : ℕ) → getD s i 0 < 256
 
+-- every record that is read fits
 abbrev pub DecodedStateFits : Type 0
 DecodedStateFits = (s : List ℕ) → Bytes s → FitsRecord (decodeState s)
 
@@ -77,5 +77,6 @@ pub record FitsBytes (d : Drive) : Type 0 where
 abbrev pub DriveKeptByCycle : Type 0
 DriveKeptByCycle = (d : Drive) → keepsRules d ≡ true → FitsBytes d → decodeDrive (encodeDrive d) ≡ d
 
+-- every record that is read fits
 abbrev pub DecodedDriveFits : Type 0
 DecodedDriveFits = (s : List ℕ) → Bytes s → FitsBytes (decodeDrive s)

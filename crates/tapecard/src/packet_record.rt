@@ -63,7 +63,8 @@ pub(crate) fn encode_state(state: State) -> [u8; 16]
     let p2 = p1 / 256;
     let p3 = p2 / 256;
     let attention = state.attention;
-    let speed = state.speed;
+    let v = state.speed;
+    let v1 = v / 256;
     let sense = state.sense;
     let i = sense.information;
     let i1 = i / 256;
@@ -76,8 +77,8 @@ pub(crate) fn encode_state(state: State) -> [u8; 16]
         (p % 256) as u8,
         weight_of(state.loaded, 1),
         attention_byte(attention),
-        (speed / 256 % 256) as u8,
-        (speed % 256) as u8,
+        (v1 % 256) as u8,
+        (v % 256) as u8,
         sense.key,
         sense.asc,
         sense.ascq,

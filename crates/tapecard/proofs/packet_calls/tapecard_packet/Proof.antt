@@ -8,15 +8,6 @@ use Rattle.tapecard.proofs.packet_calls.tapecard_packet.Tie as tie
 decode-state-requires : tie.Need-decode-state-requires
 decode-state-requires c κs = search needs
 
-packet-requires : tie.Need-packet-requires
-packet-requires c κs = search needs
-
-encode-answer-requires : tie.Need-encode-answer-requires
-encode-answer-requires c κs = search needs
-
-encode-state-requires : tie.Need-encode-state-requires
-encode-state-requires c κs = search needs
-
 same-length : tie.Need-same-length
 same-length c = search needs
 
@@ -40,9 +31,9 @@ tapecard-packet-spec =
     tie.close
     (tie.spec
     decode-state-requires
-    packet-requires
-    encode-answer-requires
-    encode-state-requires
+    (λ c κs. tt)
+    (λ c κs. tt)
+    (λ c κs. tt)
     same-length
     same-length-2
     returns

@@ -41,9 +41,6 @@ is-set-requires-4 c κs = search needs
 shared-slice-read-attention-of-2 : tie.Need-shared-slice-read-attention-of-2
 shared-slice-read-attention-of-2 c = search needs
 
-attention-of-requires : tie.Need-attention-of-requires
-attention-of-requires c κs = search needs
-
 count2-requires : tie.Need-count2-requires
 count2-requires c κs = search needs
 
@@ -70,7 +67,7 @@ decode-state-spec =
     shared-slice-read-is-set-2
     is-set-requires-4
     shared-slice-read-attention-of-2
-    attention-of-requires
+    (λ c κs. tt)
     count2-requires
     cast-t19
     returns)

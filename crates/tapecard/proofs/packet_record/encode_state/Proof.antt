@@ -5,23 +5,17 @@ use borrow.Author.Needs.{needs}
 use Rattle.tapecard.proofs.packet_record.encode_state.Statement.{statement}
 use Rattle.tapecard.proofs.packet_record.encode_state.Tie as tie
 
-cast-t14 : tie.Need-cast-t14
-cast-t14 c = search needs
+cast-t15 : tie.Need-cast-t15
+cast-t15 c = search needs
 
-cast-t16 : tie.Need-cast-t16
-cast-t16 c = search needs
+cast-t17 : tie.Need-cast-t17
+cast-t17 c = search needs
 
-cast-t18 : tie.Need-cast-t18
-cast-t18 c = search needs
+cast-t19 : tie.Need-cast-t19
+cast-t19 c = search needs
 
-cast-t20 : tie.Need-cast-t20
-cast-t20 c = search needs
-
-weight-of-requires : tie.Need-weight-of-requires
-weight-of-requires c κs = search needs
-
-attention-byte-requires : tie.Need-attention-byte-requires
-attention-byte-requires c κs = search needs
+cast-t21 : tie.Need-cast-t21
+cast-t21 c = search needs
 
 cast-t25 : tie.Need-cast-t25
 cast-t25 c = search needs
@@ -29,17 +23,8 @@ cast-t25 c = search needs
 cast-t27 : tie.Need-cast-t27
 cast-t27 c = search needs
 
-weight-of-requires-2 : tie.Need-weight-of-requires-2
-weight-of-requires-2 c κs = search needs
-
-weight-of-requires-3 : tie.Need-weight-of-requires-3
-weight-of-requires-3 c κs = search needs
-
 add-t30 : tie.Need-add-t30
 add-t30 c = search needs
-
-weight-of-requires-4 : tie.Need-weight-of-requires-4
-weight-of-requires-4 c κs = search needs
 
 add-t32 : tie.Need-add-t32
 add-t32 c = search needs
@@ -64,18 +49,18 @@ pub encode-state-spec : {M : Type 1} → statement M
 encode-state-spec =
     tie.close
     (tie.spec
-    cast-t14
-    cast-t16
-    cast-t18
-    cast-t20
-    weight-of-requires
-    attention-byte-requires
+    cast-t15
+    cast-t17
+    cast-t19
+    cast-t21
+    (λ c κs. tt)
+    (λ c κs. tt)
     cast-t25
     cast-t27
-    weight-of-requires-2
-    weight-of-requires-3
+    (λ c κs. tt)
+    (λ c κs. tt)
     add-t30
-    weight-of-requires-4
+    (λ c κs. tt)
     add-t32
     cast-t34
     cast-t36

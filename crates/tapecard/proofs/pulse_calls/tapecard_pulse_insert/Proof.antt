@@ -14,12 +14,6 @@ described-place-requires c κs = search needs
 decode-drive-requires : tie.Need-decode-drive-requires
 decode-drive-requires c κs = search needs
 
-insert-requires : tie.Need-insert-requires
-insert-requires c κs = search needs
-
-leave-requires : tie.Need-leave-requires
-leave-requires c κs = search needs
-
 returns : tie.Need-returns
 returns c = search ways
 
@@ -30,6 +24,6 @@ tapecard-pulse-insert-spec =
     described-cartridge-requires
     described-place-requires
     decode-drive-requires
-    insert-requires
-    leave-requires
+    (λ c κs. tt)
+    (λ c κs. tt)
     returns)

@@ -8,15 +8,9 @@ use Rattle.tapecard.proofs.pulse_calls.tapecard_pulse_remove.Tie as tie
 decode-drive-requires : tie.Need-decode-drive-requires
 decode-drive-requires c κs = search needs
 
-remove-requires : tie.Need-remove-requires
-remove-requires c κs = search needs
-
-leave-requires : tie.Need-leave-requires
-leave-requires c κs = search needs
-
 returns : tie.Need-returns
 returns c = search ways
 
 pub tapecard-pulse-remove-spec : {M : Type 1} → statement M
 tapecard-pulse-remove-spec =
-    tie.close (tie.spec decode-drive-requires remove-requires leave-requires returns)
+    tie.close (tie.spec decode-drive-requires (λ c κs. tt) (λ c κs. tt) returns)

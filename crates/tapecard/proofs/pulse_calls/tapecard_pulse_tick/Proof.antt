@@ -8,15 +8,9 @@ use Rattle.tapecard.proofs.pulse_calls.tapecard_pulse_tick.Tie as tie
 decode-drive-requires : tie.Need-decode-drive-requires
 decode-drive-requires c κs = search needs
 
-tick-requires : tie.Need-tick-requires
-tick-requires c κs = search needs
-
-leave-requires : tie.Need-leave-requires
-leave-requires c κs = search needs
-
 returns : tie.Need-returns
 returns c = search ways
 
 pub tapecard-pulse-tick-spec : {M : Type 1} → statement M
 tapecard-pulse-tick-spec =
-    tie.close (tie.spec decode-drive-requires tick-requires leave-requires returns)
+    tie.close (tie.spec decode-drive-requires (λ c κs. tt) (λ c κs. tt) returns)

@@ -8,15 +8,9 @@ use Rattle.tapecard.proofs.pulse_calls.tapecard_pulse_train.Tie as tie
 decode-drive-requires : tie.Need-decode-drive-requires
 decode-drive-requires c κs = search needs
 
-train-requires : tie.Need-train-requires
-train-requires c κs = search needs
-
-leave-requires : tie.Need-leave-requires
-leave-requires c κs = search needs
-
 returns : tie.Need-returns
 returns c = search ways
 
 pub tapecard-pulse-train-spec : {M : Type 1} → statement M
 tapecard-pulse-train-spec =
-    tie.close (tie.spec decode-drive-requires train-requires leave-requires returns)
+    tie.close (tie.spec decode-drive-requires (λ c κs. tt) (λ c κs. tt) returns)

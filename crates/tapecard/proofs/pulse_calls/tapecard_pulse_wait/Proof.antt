@@ -8,15 +8,9 @@ use Rattle.tapecard.proofs.pulse_calls.tapecard_pulse_wait.Tie as tie
 decode-drive-requires : tie.Need-decode-drive-requires
 decode-drive-requires c κs = search needs
 
-wait-requires : tie.Need-wait-requires
-wait-requires c κs = search needs
-
-leave-requires : tie.Need-leave-requires
-leave-requires c κs = search needs
-
 returns : tie.Need-returns
 returns c = search ways
 
 pub tapecard-pulse-wait-spec : {M : Type 1} → statement M
 tapecard-pulse-wait-spec =
-    tie.close (tie.spec decode-drive-requires wait-requires leave-requires returns)
+    tie.close (tie.spec decode-drive-requires (λ c κs. tt) (λ c κs. tt) returns)

@@ -20,9 +20,6 @@ shared-slice-read-cartridge-of-3 c = search needs
 shared-slice-read-cartridge-of-4 : tie.Need-shared-slice-read-cartridge-of-4
 shared-slice-read-cartridge-of-4 c = search needs
 
-cartridge-of-requires : tie.Need-cartridge-of-requires
-cartridge-of-requires c κs = search needs
-
 returns : tie.Need-returns
 unfolding cartridgeIn
 returns c = cc
@@ -36,5 +33,5 @@ cartridge-in-spec =
     shared-slice-read-cartridge-of-2
     shared-slice-read-cartridge-of-3
     shared-slice-read-cartridge-of-4
-    cartridge-of-requires
+    (λ c κs. tt)
     returns)

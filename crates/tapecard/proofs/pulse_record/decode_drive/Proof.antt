@@ -20,9 +20,6 @@ head-in-requires c κs = search needs
 shared-slice-read-marks-of-2 : tie.Need-shared-slice-read-marks-of-2
 shared-slice-read-marks-of-2 c = search needs
 
-marks-of-requires : tie.Need-marks-of-requires
-marks-of-requires c κs = search needs
-
 report-in-requires : tie.Need-report-in-requires
 report-in-requires c κs = search needs
 
@@ -57,7 +54,7 @@ decode-drive-spec =
     cartridge-in-requires
     head-in-requires
     shared-slice-read-marks-of-2
-    marks-of-requires
+    (λ c κs. tt)
     report-in-requires
     waiting-in-requires
     shared-slice-read-t6-2

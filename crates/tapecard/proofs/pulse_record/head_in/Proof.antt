@@ -17,9 +17,6 @@ shared-slice-read-t5 c = search needs
 shared-slice-read-motion-of : tie.Need-shared-slice-read-motion-of
 shared-slice-read-motion-of c = search needs
 
-motion-of-requires : tie.Need-motion-of-requires
-motion-of-requires c κs = search needs
-
 returns : tie.Need-returns
 unfolding headIn
 returns c = cc
@@ -32,5 +29,5 @@ head-in-spec =
     word-requires-2
     shared-slice-read-t5
     shared-slice-read-motion-of
-    motion-of-requires
+    (λ c κs. tt)
     returns)

@@ -14,9 +14,6 @@ shared-slice-read-unsent c = search needs
 word-requires : tie.Need-word-requires
 word-requires c κs = search needs
 
-unsent-requires : tie.Need-unsent-requires
-unsent-requires c κs = search needs
-
 shared-slice-read-is-set : tie.Need-shared-slice-read-is-set
 shared-slice-read-is-set c = search needs
 
@@ -34,7 +31,7 @@ report-in-spec =
     shared-slice-read-t3
     shared-slice-read-unsent
     word-requires
-    unsent-requires
+    (λ c κs. tt)
     shared-slice-read-is-set
     is-set-requires
     returns)

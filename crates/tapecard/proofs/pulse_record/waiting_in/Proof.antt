@@ -14,9 +14,6 @@ shared-slice-read-waiting-of-2 c = search needs
 word-requires : tie.Need-word-requires
 word-requires c κs = search needs
 
-waiting-of-requires : tie.Need-waiting-of-requires
-waiting-of-requires c κs = search needs
-
 returns : tie.Need-returns
 unfolding waitingIn
 returns c = cc
@@ -28,5 +25,5 @@ waiting-in-spec =
     shared-slice-read-waiting-of
     shared-slice-read-waiting-of-2
     word-requires
-    waiting-of-requires
+    (λ c κs. tt)
     returns)
