@@ -1,6 +1,6 @@
 -- The promises of the calls, kept.
 -- Assumes nothing.
-use mathlib.Core.Path.{_≡_, refl}
+use mathlib.Core.Path.{_≡_, refl, sym, _∙_}
 use mathlib.Core.Bool.{Bool}
 use mathlib.Core.List.{List}
 use Prim.Native.Nat.{ℕ}
@@ -8,10 +8,10 @@ use borrow.Author.Tests.{ne-eqb}
 use Rattle.stream_parts.specs.Answers.{Step}
 use Rattle.pulse.specs.declared.drive.Drive.{Drive}
 use Rattle.tapecard.specs.PacketRecord.{decodeState, encodeAnswer}
-use Rattle.tapecard.specs.PacketCalls.{packetCard, packetLeft, packetCall}
+use Rattle.tapecard.specs.PacketCalls.{packetCard, packetFresh, packetChange, packetLeft, packetCall}
 use Rattle.tapecard.specs.PulseRecord.{encodeTold}
-use Rattle.tapecard.specs.PulseCalls.{pulseLeft, pulseTrain, pulseTick, pulseInsert, pulseRemove, pulseWait}
-use Rattle.tapecard.specs.Promises.{PacketRefusedUntouched, UntouchedIfRefused, TrainRefusedUntouched, TickRefusedUntouched, InsertRefusedUntouched, RemoveRefusedUntouched, WaitRefusedUntouched, StateKeptByCycle, DecodedStateFits, DriveKeptByCycle, DecodedDriveFits}
+use Rattle.tapecard.specs.PulseCalls.{pulseLeft, pulsePowerOn, pulseTrain, pulseTick, pulseInsert, pulseRemove, pulseWait}
+use Rattle.tapecard.specs.Promises.{PacketRefusedUntouched, UntouchedIfRefused, TrainRefusedUntouched, TickRefusedUntouched, InsertRefusedUntouched, RemoveRefusedUntouched, WaitRefusedUntouched, StateKeptByCycle, DecodedStateFits, DriveKeptByCycle, DecodedDriveFits, Settles, Settled}
 use Rattle.tapecard.proofs.CycleLaws.{state-back, state-fits, drive-back, drive-fits}
 use Rattle.tapecard.proofs.RefusedLaws.{Kept, step-kept}
 
@@ -63,3 +63,22 @@ decoded-state-fits = state-fits
 
 pub decoded-drive-fits : DecodedDriveFits
 decoded-drive-fits = drive-fits
+
+-- ---- one outcome
+
+settles : {A : Type 0} (outcome : A) → Settles outcome
+settles outcome x y p q = p ∙ sym q
+
+pub settled : Settled
+settled =
+    record {
+      fresh = settles packetFresh;
+      change = λ state. settles (packetChange state);
+      packet = λ state image packet buf. settles (packetCall state image packet buf);
+      power-on = λ vendor rom. settles (pulsePowerOn vendor rom);
+      train = λ state pulses. settles (pulseTrain state pulses);
+      tick = λ state. settles (pulseTick state);
+      insert = λ state cartridge. settles (pulseInsert state cartridge);
+      remove = λ state. settles (pulseRemove state);
+      wait = λ state limit. settles (pulseWait state limit);
+    }

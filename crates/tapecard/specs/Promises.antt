@@ -11,9 +11,9 @@ use Rattle.pulse_parts.specs.declared.arguments.Waiting.the-variants.{Nothing, 
 use Rattle.pulse.specs.declared.drive.Drive.{Drive}
 use Rattle.pulse.specs.Rules.{keepsRules}
 use Rattle.tapecard.specs.PacketRecord.{decodeState, encodeState}
-use Rattle.tapecard.specs.PacketCalls.{packetCard, packetCall}
+use Rattle.tapecard.specs.PacketCalls.{packetCard, packetFresh, packetChange, packetCall}
 use Rattle.tapecard.specs.PulseRecord.{decodeDrive, encodeDrive}
-use Rattle.tapecard.specs.PulseCalls.{PulseCard, pulseTrain, pulseTick, pulseInsert, pulseRemove, pulseWait}
+use Rattle.tapecard.specs.PulseCalls.{PulseCard, pulsePowerOn, pulseTrain, pulseTick, pulseInsert, pulseRemove, pulseWait}
 
 -- ---- "A refused call (number not 0) leaves the record's bytes, the image and every buffer exactly as they were; only the answer is written."
 
@@ -80,3 +80,20 @@ DriveKeptByCycle = (d : Drive) → keepsRules d ≡ true → FitsBytes d → dec
 -- every record that is read fits
 abbrev pub DecodedDriveFits : Type 0
 DecodedDriveFits = (s : List ℕ) → Bytes s → FitsBytes (decodeDrive s)
+
+-- ---- 01: "Prove that any two outcomes allowed by it coincide"
+
+-- a contract that says that the outcome is this one allows no two
+abbrev pub Settles : {A : Type 0} → A → Type 0
+Settles {A} outcome = (x y : A) → x ≡ outcome → y ≡ outcome → x ≡ y
+
+pub record Settled : Type 0 where
+  pub fresh : Settles packetFresh
+  pub change : (state : List ℕ) → Settles (packetChange state)
+  pub packet : (state image packet buf : List ℕ) → Settles (packetCall state image packet buf)
+  pub power-on : (vendor rom : ℕ) → Settles (pulsePowerOn vendor rom)
+  pub train : (state : List ℕ) (pulses : ℕ) → Settles (pulseTrain state pulses)
+  pub tick : (state : List ℕ) → Settles (pulseTick state)
+  pub insert : (state cartridge : List ℕ) → Settles (pulseInsert state cartridge)
+  pub remove : (state : List ℕ) → Settles (pulseRemove state)
+  pub wait : (state : List ℕ) (limit : ℕ) → Settles (pulseWait state limit)
