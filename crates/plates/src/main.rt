@@ -1,0 +1,25 @@
+// Runs a script of packets from standard input through the C interface and prints what each leaves: 01's worked examples and every
+// ending of its packet section, by name (stdin), held to what 01 says (stdout).
+mod card; // card.rt: what is lent to the drive, and one packet sent
+mod script; // script.rt: a line of the script, taken apart
+mod show; // show.rt: text and bytes on standard output
+
+use card::Card;
+use libc::STDIN_FILENO;
+
+// The lines one after the other; the card goes through them.
+fn run(script: &[u8], first: Card) {
+    let mut card = first;
+    let mut from: usize = 0;
+    while from < script.len() {
+        let to = script::line_end(script, from);
+        card = script::obey(card, &script[from..to]);
+        from = to + 1;
+    }
+}
+
+fn main() {
+    let mut text = io::large_buffer();
+    let n = io::read_full(STDIN_FILENO, &mut text);
+    run(&text[..n], card::plate());
+}
