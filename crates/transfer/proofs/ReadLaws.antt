@@ -161,9 +161,6 @@ module _ (s : List ℕ) (size kinds blocks end : ℕ) where
     pub read-left : readFrom s size kinds blocks end n off p buf .moved .left ≤ n
     read-left = read-ended .less
 
-    pub read-full : readFrom s size kinds blocks end n off p buf .moved .stop ≡ Full → readFrom s size kinds blocks end n off p buf .moved .left ≡ 0
-    read-full = read-ended .full
-
     pub read-place : p ≤ end → readFrom s size kinds blocks end n off p buf .moved .place ≤ end
     read-place = run-place (read-run n off p buf)
 

@@ -232,24 +232,12 @@ module _ (s : List ℕ) (kinds : ℕ) where
     pub blocks-on-ended : Ended n (blocksOn s kinds end n p)
     blocks-on-ended = on-ends (on-run end n p)
 
-    pub blocks-on-left : blocksOn s kinds end n p .left ≤ n
-    blocks-on-left = blocks-on-ended .less
-
-    pub blocks-on-full : blocksOn s kinds end n p .stop ≡ Full → blocksOn s kinds end n p .left ≡ 0
-    blocks-on-full = blocks-on-ended .full
-
     pub blocks-on-place : p ≤ end → blocksOn s kinds end n p .place ≤ end
     blocks-on-place = on-place (on-run end n p)
 
   module _ (p n : ℕ) where
     pub blocks-back-ended : Ended n (blocksBack s kinds p n)
     blocks-back-ended = back-ends (back-run p n)
-
-    pub blocks-back-left : blocksBack s kinds p n .left ≤ n
-    blocks-back-left = blocks-back-ended .less
-
-    pub blocks-back-full : blocksBack s kinds p n .stop ≡ Full → blocksBack s kinds p n .left ≡ 0
-    blocks-back-full = blocks-back-ended .full
 
     pub blocks-back-place : blocksBack s kinds p n .place ≤ p
     blocks-back-place = back-place (back-run p n)
@@ -258,24 +246,12 @@ module _ (s : List ℕ) (kinds : ℕ) where
     pub marks-on-ended : Ended n (marksOn s kinds ahead n p)
     marks-on-ended = marks-on-ends (marks-on-run ahead n p)
 
-    pub marks-on-left : marksOn s kinds ahead n p .left ≤ n
-    marks-on-left = marks-on-ended .less
-
-    pub marks-on-full : marksOn s kinds ahead n p .stop ≡ Full → marksOn s kinds ahead n p .left ≡ 0
-    marks-on-full = marks-on-ended .full
-
   pub marks-on-place : (end n p : ℕ) → p ≤ end → marksOn s kinds (end - p) n p .place ≤ end
   marks-on-place end n p l = let h = marks-on-far (marks-on-run (end - p) n p) in omega arith
 
   module _ (p n : ℕ) where
     pub marks-back-ended : Ended n (marksBack s kinds p n)
     marks-back-ended = marks-back-ends (marks-back-run p n)
-
-    pub marks-back-left : marksBack s kinds p n .left ≤ n
-    marks-back-left = marks-back-ended .less
-
-    pub marks-back-full : marksBack s kinds p n .stop ≡ Full → marksBack s kinds p n .left ≡ 0
-    marks-back-full = marks-back-ended .full
 
     pub marks-back-place : marksBack s kinds p n .place ≤ p
     marks-back-place = marks-back-near (marks-back-run p n)

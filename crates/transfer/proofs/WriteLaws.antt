@@ -105,9 +105,6 @@ module _ (size kinds blocks end : ℕ) (src : List ℕ) where
     pub write-left : writeFrom size kinds blocks end src n off p s .moved .left ≤ n
     write-left = write-ended .less
 
-    pub write-full : writeFrom size kinds blocks end src n off p s .moved .stop ≡ Full → writeFrom size kinds blocks end src n off p s .moved .left ≡ 0
-    write-full = write-ended .full
-
     pub write-place : p ≤ end → writeFrom size kinds blocks end src n off p s .moved .place ≤ end
     write-place = write-advanced .within
 
@@ -145,9 +142,6 @@ module _ (kinds end : ℕ) where
 
     pub mark-left : markFrom kinds end n p s .moved .left ≤ n
     mark-left = mark-ended .less
-
-    pub mark-full : markFrom kinds end n p s .moved .stop ≡ Full → markFrom kinds end n p s .moved .left ≡ 0
-    mark-full = mark-ended .full
 
     pub mark-place : p ≤ end → markFrom kinds end n p s .moved .place ≤ end
     mark-place = mark-advanced .within
