@@ -118,7 +118,7 @@ number-exactly =
     }
 
 -- ---- one outcome
-settles : {A : Type 0} (outcome : A) → Settles outcome
+pub settles : {A : Type 0} (outcome : A) → Settles outcome
 settles outcome x y p q = p ∙ sym q
 
 pub settled : Settled

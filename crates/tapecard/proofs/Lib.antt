@@ -1,6 +1,1 @@
 pub mod CallLaws
-pub mod ValueLaws
-pub mod RefusedLaws
-pub mod ByteLaws
-pub mod CycleLaws
-pub mod CardLaws

@@ -1,12 +1,12 @@
 // The calls of the pulse drive.
 ghost use mathlib.Core.Path.{_≡_};
 ghost use Rattle.tapecard.specs.PulseCalls.{pulseCard, pulseLeft, pulsePowerOn, pulseTrain, pulseTick, pulseInsert, pulseRemove, pulseWait};
-use crate::pulse_record::decode_drive;
-use crate::pulse_record::described_cartridge;
-use crate::pulse_record::described_place;
-use crate::pulse_record::encode_drive;
-use crate::pulse_record::encode_told;
 use pulse::Drive;
+use records::pulse_record::decode_drive;
+use records::pulse_record::described_cartridge;
+use records::pulse_record::described_place;
+use records::pulse_record::encode_drive;
+use records::pulse_record::encode_told;
 
 const NO_TICKS: u32 = 0;
 

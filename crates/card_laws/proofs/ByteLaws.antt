@@ -1,0 +1,109 @@
+-- A number, a flag or a case that is written to its bytes is read back.
+-- Assumes nothing.
+use mathlib.Core.Path.{_≡_, refl, sym}
+use mathlib.Core.Bool.{Bool, true, false}
+use Prim.Native.Nat.{ℕ, zero, suc, _+_, _*_, _/_, _%_, _^_, _<_, _≤_}
+use native.Mathlib.Omega.{arith}
+use borrow.Author.Tests.{eq-eqb, ne-eqb}
+use Rattle.numbers.specs.Choice.{_≡ᵇ_}
+use Rattle.stream_parts.specs.declared.state.Attention.{Attention}
+use Rattle.stream_parts.specs.declared.state.Attention.the-variants.{Nothing, MediumChanged, Reset}
+use Rattle.pulse_parts.specs.declared.head.Motion.{Motion}
+use Rattle.pulse_parts.specs.declared.head.Motion.the-variants.{Still, Run, Load}
+use Rattle.pulse_parts.specs.Reports.{bit}
+use Rattle.records.specs.Flags.{isSet, weightOf}
+use Rattle.records.specs.PacketRecord.{attentionOf, attentionByte}
+use Rattle.records.specs.PulseRecord.{motionOf, motionByte, unsent}
+
+-- ---- numbers
+
+pub two-back : (v : ℕ) → v < 2 ^ 16 → v / 256 % 256 * 256 + v % 256 ≡ v
+two-back v h = omega arith
+
+pub four-back : (v : ℕ) → v < 2 ^ 32 → ((v / 256 / 256 / 256 % 256 * 256 + v / 256 / 256 % 256) * 256 + v / 256 % 256) * 256 + v % 256 ≡ v
+four-back v h = omega arith
+
+-- ---- flags
+
+weight-is : (b : Bool) (weight : ℕ) → weightOf b weight ≡ bit b * weight
+weight-is true weight = omega arith
+weight-is false weight = omega arith
+
+bit-most : (b : Bool) → bit b ≤ 1
+bit-most true = omega arith
+bit-most false = omega arith
+
+set-by : (x : ℕ) (b : Bool) → x ≡ bit b → (x ≡ᵇ 1) ≡ b
+set-by x true e = eq-eqb x 1 e
+set-by x false e = rw e
+
+three : (p q r x : ℕ) → p ≤ 1 → q ≤ 1 → r ≤ 1 → x ≡ p * 1 + q * 2 + r * 4 → (x / 1 % 2 ≡ p) × ((x / 2 % 2 ≡ q) × (x / 4 % 2 ≡ r))
+three p q r x hp hq hr e = (omega arith, (omega arith, omega arith))
+
+five : (p q r s t x : ℕ) → p ≤ 1 → q ≤ 1 → r ≤ 1 → s ≤ 1 → t ≤ 1 → x ≡ p * 1 + q * 2 + r * 4 + s * 8 + t * 16
+    → (x / 1 % 2 ≡ p) × ((x / 2 % 2 ≡ q) × ((x / 4 % 2 ≡ r) × ((x / 8 % 2 ≡ s) × (x / 16 % 2 ≡ t))))
+five p q r s t x hp hq hr hs ht e = (omega arith, (omega arith, (omega arith, (omega arith, omega arith))))
+
+module _ (a b c : Bool) where
+  abbrev pub threeFlags : ℕ
+  threeFlags = weightOf a 1 + weightOf b 2 + weightOf c 4
+
+  three-bits : (threeFlags / 1 % 2 ≡ bit a) × ((threeFlags / 2 % 2 ≡ bit b) × (threeFlags / 4 % 2 ≡ bit c))
+  three-bits = three (bit a) (bit b) (bit c) threeFlags (bit-most a) (bit-most b) (bit-most c) (rw (weight-is a 1, weight-is b 2, weight-is c 4))
+
+  pub three-back : (isSet threeFlags 1 ≡ a) × ((isSet threeFlags 2 ≡ b) × (isSet threeFlags 4 ≡ c))
+  three-back = (set-by _ a (three-bits .0), (set-by _ b (three-bits .1 .0), set-by _ c (three-bits .1 .1)))
+
+module _ (a b c d e : Bool) where
+  abbrev pub fiveFlags : ℕ
+  fiveFlags = weightOf a 1 + weightOf b 2 + weightOf c 4 + weightOf d 8 + weightOf e 16
+
+  five-bits : (fiveFlags / 1 % 2 ≡ bit a) × ((fiveFlags / 2 % 2 ≡ bit b) × ((fiveFlags / 4 % 2 ≡ bit c) × ((fiveFlags / 8 % 2 ≡ bit d) × (fiveFlags / 16 % 2 ≡ bit e))))
+  five-bits =
+      five (bit a) (bit b) (bit c) (bit d) (bit e) fiveFlags (bit-most a) (bit-most b) (bit-most c) (bit-most d) (bit-most e)
+      (rw (weight-is a 1, weight-is b 2, weight-is c 4, weight-is d 8, weight-is e 16))
+
+  pub five-back : (isSet fiveFlags 1 ≡ a) × ((isSet fiveFlags 2 ≡ b) × ((isSet fiveFlags 4 ≡ c) × ((isSet fiveFlags 8 ≡ d) × (isSet fiveFlags 16 ≡ e))))
+  five-back = (
+    set-by _ a (five-bits .0),
+    (
+      set-by _ b (five-bits .1 .0),
+      (set-by _ c (five-bits .1 .1 .0), (set-by _ d (five-bits .1 .1 .1 .0), set-by _ e (five-bits .1 .1 .1 .1))),
+    ),
+  )
+
+pub one-back : (b : Bool) → isSet (weightOf b 1) 1 ≡ b
+one-back true = refl
+one-back false = refl
+
+-- ---- cases
+
+pub attention-back : (a : Attention) → attentionOf (attentionByte a) ≡ a
+unfolding attentionOf
+attention-back Nothing = refl
+attention-back MediumChanged = refl
+attention-back Reset = refl
+
+pub motion-back : (m : Motion) → motionOf (motionByte m) ≡ m
+unfolding motionOf
+motion-back Still = refl
+motion-back Run = refl
+motion-back Load = refl
+
+unsent-back : (left bits : ℕ) → (left ≡ 0 → bits ≡ 0) → unsent left bits ≡ bits
+unfolding unsent
+unsent-back zero bits h = sym (h refl)
+unsent-back (suc left) bits h = rw (ne-eqb (suc left) 0 (λ e. omega arith))
+
+pub bits-back : (left bits : ℕ) → bits < 2 ^ 16 → (left ≡ 0 → bits ≡ 0)
+    → unsent left (unsent left bits / 256 % 256 * 256 + unsent left bits % 256) ≡ bits
+bits-back left bits b h = let u = unsent-back left bits h in rw (u, two-back bits b) u
+
+pub unsent-most : (left bits : ℕ) → bits < 2 ^ 16 → unsent left bits < 2 ^ 16
+unfolding unsent
+unsent-most zero bits h = omega arith
+unsent-most (suc left) bits h = rw (ne-eqb (suc left) 0 (λ e. omega arith)) h
+
+pub unsent-closed : (left bits : ℕ) → left ≡ 0 → unsent left bits ≡ 0
+unfolding unsent
+unsent-closed left bits z = rw z

@@ -1,0 +1,85 @@
+-- The promises of the calls, kept.
+-- Assumes nothing.
+use mathlib.Core.Path.{_≡_}
+use mathlib.Core.Bool.{Bool}
+use mathlib.Core.List.{List}
+use Prim.Native.Nat.{ℕ}
+use borrow.Author.Tests.{ne-eqb}
+use Rattle.stream_parts.specs.declared.state.State.{State}
+use Rattle.stream_parts.specs.Answers.{Step}
+use Rattle.stream_laws.specs.Words.{Refusal}
+use Rattle.stream_laws.proofs.Refusals.{refused-keeps}
+use Rattle.pulse.specs.declared.drive.Drive.{Drive}
+use Rattle.records.specs.PacketRecord.{decodeState, encodeAnswer}
+use Rattle.tapecard.specs.PacketCalls.{packetCard, packetFresh, packetChange, packetLeft, packetCall}
+use Rattle.records.specs.PulseRecord.{encodeTold}
+use Rattle.tapecard.specs.PulseCalls.{pulseLeft, pulsePowerOn, pulseTrain, pulseTick, pulseInsert, pulseRemove, pulseWait}
+use Rattle.card_laws.specs.Promises.{PacketRefusedUntouched, UntouchedIfRefused, TrainRefusedUntouched, TickRefusedUntouched, InsertRefusedUntouched, RemoveRefusedUntouched, WaitRefusedUntouched, StateKeptByCycle, DecodedStateFits, DriveKeptByCycle, DecodedDriveFits, Settled}
+use Rattle.pulse_laws.proofs.Answers.{settles}
+use Rattle.card_laws.proofs.CycleLaws.{state-back, state-fits, drive-back, drive-fits}
+
+-- ---- refused: untouched
+
+left-untouched : (state image buf : List ℕ) (st : State) (x : Step) → Refusal image st buf x → (x .out .answer .number ≡ 0 → ⊥)
+    → packetLeft state x ≡ packetCard state image buf (packetLeft state x .answer)
+unfolding packetLeft
+left-untouched state image buf st x r n = rw (ne-eqb _ _ n, r .image-kept, r .buf-kept)
+
+pub packet-refused-untouched : PacketRefusedUntouched
+unfolding packetCall packetLeft encodeAnswer
+packet-refused-untouched state image packet buf n =
+    left-untouched state image buf (decodeState state) _ (refused-keeps image (decodeState state) packet buf n) n
+
+pulse-untouched : (state : List ℕ) (number : ℕ) (level : Bool) (ticks : ℕ) (d : Drive) → UntouchedIfRefused state (pulseLeft state number level ticks d)
+unfolding pulseLeft encodeTold
+pulse-untouched state number level ticks d n = rw (ne-eqb _ _ n)
+
+pub train-refused-untouched : TrainRefusedUntouched
+unfolding pulseTrain
+train-refused-untouched state pulses = pulse-untouched state _ _ _ _
+
+pub tick-refused-untouched : TickRefusedUntouched
+unfolding pulseTick
+tick-refused-untouched state = pulse-untouched state _ _ _ _
+
+pub insert-refused-untouched : InsertRefusedUntouched
+unfolding pulseInsert
+insert-refused-untouched state cartridge = pulse-untouched state _ _ _ _
+
+pub remove-refused-untouched : RemoveRefusedUntouched
+unfolding pulseRemove
+remove-refused-untouched state = pulse-untouched state _ _ _ _
+
+pub wait-refused-untouched : WaitRefusedUntouched
+unfolding pulseWait
+wait-refused-untouched state limit = pulse-untouched state _ _ _ _
+
+-- ---- kept by a power cycle
+
+pub state-kept-by-cycle : StateKeptByCycle
+state-kept-by-cycle = state-back
+
+pub drive-kept-by-cycle : DriveKeptByCycle
+drive-kept-by-cycle = drive-back
+
+pub decoded-state-fits : DecodedStateFits
+decoded-state-fits = state-fits
+
+pub decoded-drive-fits : DecodedDriveFits
+decoded-drive-fits = drive-fits
+
+-- ---- one outcome
+
+pub settled : Settled
+settled =
+    record {
+      fresh = settles packetFresh;
+      change = λ state. settles (packetChange state);
+      packet = λ state image packet buf. settles (packetCall state image packet buf);
+      power-on = λ vendor rom. settles (pulsePowerOn vendor rom);
+      train = λ state pulses. settles (pulseTrain state pulses);
+      tick = λ state. settles (pulseTick state);
+      insert = λ state cartridge. settles (pulseInsert state cartridge);
+      remove = λ state. settles (pulseRemove state);
+      wait = λ state limit. settles (pulseWait state limit);
+    }

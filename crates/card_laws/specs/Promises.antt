@@ -1,0 +1,99 @@
+-- What the calls promise beyond their definitions; proofs/CardLaws.antt keeps each.
+-- Assumes nothing.
+use mathlib.Core.Path.{_≡_}
+use mathlib.Core.Bool.{true}
+use mathlib.Core.List.{List}
+use Prim.Native.Nat.{ℕ, _^_, _<_}
+use lib.ListN.{getD}
+use Rattle.stream_parts.specs.declared.state.State.{State}
+use Rattle.pulse_parts.specs.declared.arguments.Waiting.{Waiting}
+use Rattle.pulse_parts.specs.declared.arguments.Waiting.the-variants.{Nothing, For}
+use Rattle.pulse.specs.declared.drive.Drive.{Drive}
+use Rattle.pulse.specs.Rules.{keepsRules}
+use Rattle.pulse_laws.specs.Runs.{Settles}
+use Rattle.records.specs.PacketRecord.{decodeState, encodeState}
+use Rattle.tapecard.specs.PacketCalls.{packetCard, packetFresh, packetChange, packetCall}
+use Rattle.records.specs.PulseRecord.{decodeDrive, encodeDrive}
+use Rattle.tapecard.specs.PulseCalls.{PulseCard, pulsePowerOn, pulseTrain, pulseTick, pulseInsert, pulseRemove, pulseWait}
+
+-- ---- "A refused call (number not 0) leaves the record's bytes, the image and every buffer exactly as they were; only the answer is written."
+
+-- the number is byte 0 of every answer
+abbrev pub Refused : List ℕ → Type 0
+Refused answer = getD answer 0 0 ≡ 0 → ⊥
+
+abbrev pub PacketRefusedUntouched : Type 0
+PacketRefusedUntouched =
+    (state image packet buf : List ℕ) → Refused (packetCall state image packet buf .answer)
+    → packetCall state image packet buf ≡ packetCard state image buf (packetCall state image packet buf .answer)
+
+abbrev pub UntouchedIfRefused : List ℕ → PulseCard → Type 0
+UntouchedIfRefused state x = Refused (x .answer) → x .state ≡ state
+
+abbrev pub TrainRefusedUntouched : Type 0
+TrainRefusedUntouched = (state : List ℕ) (pulses : ℕ) → UntouchedIfRefused state (pulseTrain state pulses)
+
+abbrev pub TickRefusedUntouched : Type 0
+TickRefusedUntouched = (state : List ℕ) → UntouchedIfRefused state (pulseTick state)
+
+abbrev pub InsertRefusedUntouched : Type 0
+InsertRefusedUntouched = (state cartridge : List ℕ) → UntouchedIfRefused state (pulseInsert state cartridge)
+
+abbrev pub RemoveRefusedUntouched : Type 0
+RemoveRefusedUntouched = (state : List ℕ) → UntouchedIfRefused state (pulseRemove state)
+
+abbrev pub WaitRefusedUntouched : Type 0
+WaitRefusedUntouched = (state : List ℕ) (limit : ℕ) → UntouchedIfRefused state (pulseWait state limit)
+
+-- ---- a card that keeps its record across a power cycle loses nothing
+
+-- every element is a byte, as in each array that C or Rust lends
+abbrev pub Bytes : List ℕ → Type 0
+Bytes s = (i : ℕ) → getD s i 0 < 256
+
+-- the numbers that are wider inside fit their bytes
+pub record FitsRecord (st : State) : Type 0 where
+  pub position : st .position < 2 ^ 32
+  pub speed : st .speed < 2 ^ 16
+  pub information : st .sense .information < 2 ^ 32
+
+abbrev pub StateKeptByCycle : Type 0
+StateKeptByCycle = (st : State) → FitsRecord st → decodeState (encodeState st) ≡ st
+
+-- every record that is read fits
+abbrev pub DecodedStateFits : Type 0
+DecodedStateFits = (s : List ℕ) → Bytes s → FitsRecord (decodeState s)
+
+-- "the value is read modulo 16^held"
+abbrev pub HeldAlone : Waiting → Type 0
+HeldAlone Nothing = Unit {0}
+HeldAlone (For code held value) = value < 16 ^ held
+
+-- what the rules leave open: numbers fit their bytes, no bits where no report is open, no nibble beyond those held
+pub record FitsBytes (d : Drive) : Type 0 where
+  pub vendor : d .vendor < 2 ^ 16
+  pub rom : d .rom < 2 ^ 8
+  pub command : d .fault .command < 2 ^ 8
+  pub bits : d .report .bits < 2 ^ 16
+  pub closed : d .report .left ≡ 0 → d .report .bits ≡ 0
+  pub held : HeldAlone (d .waiting)
+
+abbrev pub DriveKeptByCycle : Type 0
+DriveKeptByCycle = (d : Drive) → keepsRules d ≡ true → FitsBytes d → decodeDrive (encodeDrive d) ≡ d
+
+-- every record that is read fits
+abbrev pub DecodedDriveFits : Type 0
+DecodedDriveFits = (s : List ℕ) → Bytes s → FitsBytes (decodeDrive s)
+
+-- ---- 01: "Prove that any two outcomes allowed by it coincide"
+
+pub record Settled : Type 0 where
+  pub fresh : Settles packetFresh
+  pub change : (state : List ℕ) → Settles (packetChange state)
+  pub packet : (state image packet buf : List ℕ) → Settles (packetCall state image packet buf)
+  pub power-on : (vendor rom : ℕ) → Settles (pulsePowerOn vendor rom)
+  pub train : (state : List ℕ) (pulses : ℕ) → Settles (pulseTrain state pulses)
+  pub tick : (state : List ℕ) → Settles (pulseTick state)
+  pub insert : (state cartridge : List ℕ) → Settles (pulseInsert state cartridge)
+  pub remove : (state : List ℕ) → Settles (pulseRemove state)
+  pub wait : (state : List ℕ) (limit : ℕ) → Settles (pulseWait state limit)

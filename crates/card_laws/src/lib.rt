@@ -1,0 +1,1 @@
+// Theorems on the C interface; specs/Promises.antt states them, proofs/ proves them.

@@ -1,0 +1,3 @@
+pub mod Flags
+pub mod PacketRecord
+pub mod PulseRecord
