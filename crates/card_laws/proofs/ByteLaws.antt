@@ -2,10 +2,13 @@
 -- Assumes nothing.
 use mathlib.Core.Path.{_≡_, refl, sym}
 use mathlib.Core.Bool.{Bool, true, false}
-use Prim.Native.Nat.{ℕ, zero, suc, _+_, _*_, _/_, _%_, _^_, _<_, _≤_}
+use mathlib.Core.List.{List, [], _∷_}
+use Prim.Native.Nat.{ℕ, zero, suc, _+_, _*_, _/_, _%_, _^_, _<_, _≤_, max}
 use native.Mathlib.Omega.{arith}
-use borrow.Author.Tests.{eq-eqb, ne-eqb}
+use borrow.Author.Tests.{eq-eqb, ne-eqb, eqb-true}
 use Rattle.numbers.specs.Choice.{_≡ᵇ_}
+use Rattle.numbers.specs.Member.{isIn}
+use Rattle.pulse_laws.proofs.Bools.{never, or-by}
 use Rattle.stream_parts.specs.declared.state.Attention.{Attention}
 use Rattle.stream_parts.specs.declared.state.Attention.the-variants.{Nothing, MediumChanged, Reset}
 use Rattle.pulse_parts.specs.declared.head.Motion.{Motion}
@@ -23,13 +26,25 @@ two-back v h = omega arith
 pub four-back : (v : ℕ) → v < 2 ^ 32 → ((v / 256 / 256 / 256 % 256 * 256 + v / 256 / 256 % 256) * 256 + v / 256 % 256) * 256 + v % 256 ≡ v
 four-back v h = omega arith
 
+-- ---- members of a table
+
+-- the largest of a table
+unfoldable pub largest : List ℕ → ℕ
+largest [] = 0
+largest (y ∷ ys) = max y (largest ys)
+
+pub in-largest : (x : ℕ) (ys : List ℕ) → isIn x ys ≡ true → x ≤ largest ys
+unfolding isIn largest
+in-largest x [] e = never e refl
+in-largest x (y ∷ ys) e = or-by (y ≡ᵇ x) (isIn x ys) e (λ p. omega (arith, eqb-true y x p)) (λ p. omega (arith, in-largest x ys p))
+
 -- ---- flags
 
 weight-is : (b : Bool) (weight : ℕ) → weightOf b weight ≡ bit b * weight
 weight-is true weight = omega arith
 weight-is false weight = omega arith
 
-bit-most : (b : Bool) → bit b ≤ 1
+pub bit-most : (b : Bool) → bit b ≤ 1
 bit-most true = omega arith
 bit-most false = omega arith
 

@@ -14,8 +14,10 @@ use Rattle.records.specs.PacketRecord.{decodeState, encodeAnswer}
 use Rattle.tapecard.specs.PacketCalls.{packetCard, packetFresh, packetChange, packetLeft, packetCall}
 use Rattle.records.specs.PulseRecord.{encodeTold}
 use Rattle.tapecard.specs.PulseCalls.{pulseLeft, pulsePowerOn, pulseTrain, pulseTick, pulseInsert, pulseRemove, pulseWait}
-use Rattle.card_laws.specs.Promises.{PacketRefusedUntouched, UntouchedIfRefused, TrainRefusedUntouched, TickRefusedUntouched, InsertRefusedUntouched, RemoveRefusedUntouched, WaitRefusedUntouched, StateKeptByCycle, DecodedStateFits, DriveKeptByCycle, DecodedDriveFits, Settled}
+use Rattle.card_laws.specs.Promises.{PacketRefusedUntouched, UntouchedIfRefused, TrainRefusedUntouched, TickRefusedUntouched, InsertRefusedUntouched, RemoveRefusedUntouched, WaitRefusedUntouched, StateKeptByCycle, DecodedStateFits, DriveKeptByCycle, DecodedDriveFits, CountsWhole, Settled}
 use Rattle.pulse_laws.proofs.Answers.{settles}
+use Rattle.card_laws.proofs.PacketFollowing.{blocks-whole, bytes-whole}
+use Rattle.card_laws.proofs.PulseFollowing.{ticks-whole}
 use Rattle.card_laws.proofs.CycleLaws.{state-back, state-fits, drive-back, drive-fits}
 
 -- ---- refused: untouched
@@ -67,6 +69,11 @@ decoded-state-fits = state-fits
 
 pub decoded-drive-fits : DecodedDriveFits
 decoded-drive-fits = drive-fits
+
+-- ---- counts
+
+pub counts-whole : CountsWhole
+counts-whole = record { blocks = blocks-whole; bytes = bytes-whole; ticks = ticks-whole }
 
 -- ---- one outcome
 

@@ -9,11 +9,17 @@ use Rattle.stream_parts.specs.declared.state.State.{State}
 use Rattle.pulse_parts.specs.declared.arguments.Waiting.{Waiting}
 use Rattle.pulse_parts.specs.declared.arguments.Waiting.the-variants.{Nothing, For}
 use Rattle.pulse.specs.declared.drive.Drive.{Drive}
+use Rattle.pulse.specs.Calls.{trainCall, tickCall, insertCall, removeCall, waitCall}
+use Rattle.pulse.specs.Drives.{powerOn}
 use Rattle.pulse.specs.Rules.{keepsRules}
 use Rattle.pulse_laws.specs.Runs.{Settles}
+use Rattle.stream_parts.specs.States.{freshState, changedState}
+use Rattle.stream.specs.Packet.{packetStep}
+use Rattle.stream_laws.specs.Words.{stateOf, blocksOf, bytesOf}
+use Rattle.numbers.specs.Counts.{countAt}
 use Rattle.records.specs.PacketRecord.{decodeState, encodeState}
 use Rattle.tapecard.specs.PacketCalls.{packetCard, packetFresh, packetChange, packetCall}
-use Rattle.records.specs.PulseRecord.{decodeDrive, encodeDrive}
+use Rattle.records.specs.PulseRecord.{decodeDrive, encodeDrive, describedCartridge, describedPlace}
 use Rattle.tapecard.specs.PulseCalls.{PulseCard, pulsePowerOn, pulseTrain, pulseTick, pulseInsert, pulseRemove, pulseWait}
 
 -- ---- "A refused call (number not 0) leaves the record's bytes, the image and every buffer exactly as they were; only the answer is written."
@@ -84,6 +90,32 @@ DriveKeptByCycle = (d : Drive) → keepsRules d ≡ true → FitsBytes d → dec
 -- every record that is read fits
 abbrev pub DecodedDriveFits : Type 0
 DecodedDriveFits = (s : List ℕ) → Bytes s → FitsBytes (decodeDrive s)
+
+-- ---- so bytes kept between calls follow the engine: whatever bytes a call is given, those it leaves spell what the engine's call left
+
+pub record PacketFollows : Type 0 where
+  pub fresh : decodeState packetFresh ≡ freshState
+  pub change : (state : List ℕ) → Bytes state → decodeState (packetChange state) ≡ changedState (decodeState state)
+  pub packet : (state image packet buf : List ℕ) → Bytes packet
+      → decodeState (packetCall state image packet buf .state) ≡ stateOf (packetStep image (decodeState state) packet buf)
+
+pub record PulseFollows : Type 0 where
+  pub power-on : (vendor rom : ℕ) → vendor < 2 ^ 16 → rom < 2 ^ 8 → decodeDrive (pulsePowerOn vendor rom) ≡ powerOn vendor rom
+  pub train : (state : List ℕ) (n : ℕ) → Bytes state → decodeDrive (pulseTrain state n .state) ≡ trainCall (decodeDrive state) n .drive
+  pub tick : (state : List ℕ) → Bytes state → decodeDrive (pulseTick state .state) ≡ tickCall (decodeDrive state) .drive
+  pub insert : (state cartridge : List ℕ) → Bytes state
+      → decodeDrive (pulseInsert state cartridge .state) ≡ insertCall (decodeDrive state) (describedCartridge cartridge) (describedPlace cartridge) .drive
+  pub remove : (state : List ℕ) → Bytes state → decodeDrive (pulseRemove state .state) ≡ removeCall (decodeDrive state) .drive
+  pub wait : (state : List ℕ) (limit : ℕ) → Bytes state → decodeDrive (pulseWait state limit .state) ≡ waitCall (decodeDrive state) limit .drive
+
+-- and no count of an answer is cut: "4-7 blocks; 8-11 bytes" of a packet, "4-7 ticks" of a wait
+
+pub record CountsWhole : Type 0 where
+  pub blocks : (state image packet buf : List ℕ) → Bytes packet
+      → countAt (packetCall state image packet buf .answer) 4 4 ≡ blocksOf (packetStep image (decodeState state) packet buf)
+  pub bytes : (state image packet buf : List ℕ) → Bytes packet
+      → countAt (packetCall state image packet buf .answer) 8 4 ≡ bytesOf (packetStep image (decodeState state) packet buf)
+  pub ticks : (state : List ℕ) (limit : ℕ) → limit < 2 ^ 32 → countAt (pulseWait state limit .answer) 4 4 ≡ waitCall (decodeDrive state) limit .ticks
 
 -- ---- 01: "Prove that any two outcomes allowed by it coincide"
 

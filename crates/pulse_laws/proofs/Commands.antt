@@ -37,7 +37,7 @@ is-code : (a n : ℕ) → a < 36 → (n ≡ᵇ a) ≡ true → n < 36
 is-code a n l e = omega (arith, eqb-true n a e)
 
 -- every supported code is below 36
-supported-low : (n : ℕ) → supported n ≡ true → n < 36
+pub supported-low : (n : ℕ) → supported n ≡ true → n < 36
 supported-low n e =
     or-by _ _ e
     (λ e. or-by _ _ e

@@ -38,21 +38,25 @@ unfolding ends
 ends-is st Good blocks bytes = refl
 ends-is st (Check x) blocks bytes = refl
 
--- ---- keys
+-- ---- keys and information
 
-pub ending-key : (stop : Stop) (left : ℕ) → senseOf (endingOf stop left) .key ≤ highestKey
+-- a sense whose key keeps refusal 3's rule, with information n at most
+abbrev pub Modest : ℕ → Sense → Type 0
+Modest n x = (x .key ≤ highestKey) × (x .information ≤ n)
+
+pub ending-modest : (stop : Stop) (left : ℕ) → Modest left (senseOf (endingOf stop left))
 unfolding endingOf
-ending-key Full left = omega arith
-ending-key AtFilemark left = omega arith
-ending-key AtBadBlock left = omega arith
-ending-key AtEnd left = omega arith
-ending-key AtBeginning left = omega arith
+ending-modest Full left = omega arith
+ending-modest AtFilemark left = omega arith
+ending-modest AtBadBlock left = omega arith
+ending-modest AtEnd left = omega arith
+ending-modest AtBeginning left = omega arith
 
-pub write-key : (h : Header) (asked : ℕ) (m : Moved) → senseOf (writeEnding h asked m) .key ≤ highestKey
+pub write-modest : (h : Header) (asked : ℕ) (m : Moved) → Modest (m .left) (senseOf (writeEnding h asked m))
 unfolding writeEnding
-write-key h asked m = by (leb 1 (m .left)) (leb 1 asked && pastWarning h (m .place))
+write-modest h asked m = by (leb 1 (m .left)) (leb 1 asked && pastWarning h (m .place))
   where
-    by : (a b : Bool) → senseOf (if a then Check (volumeOverflow (m .left)) else if b then Check earlyWarning else Good) .key ≤ highestKey
+    by : (a b : Bool) → Modest (m .left) (senseOf (if a then Check (volumeOverflow (m .left)) else if b then Check earlyWarning else Good))
     by true b = omega arith
     by false true = omega arith
     by false false = omega arith

@@ -28,7 +28,7 @@ stays-good s st packet buf e =
     let f = fields-are _ _ (w .header) in (
       keeps-of _ _ (w .header),
       f ∙ ap (λ (x : Header). withRecorded (fieldsOf s) (x .recorded)) (sym f),
-      rw f (of-ruly _ _ (w .ruly)),
+      rw f (of-ruly _ _ (w .accepted .ruly)),
     )
 
 pub beyond-kept : BeyondKept

@@ -60,7 +60,7 @@ module _ (i : ℕ) (bytes : List ℕ) (s : List ℕ) (st : State) (packet buf : 
   accepted-block : numberOf x ≡ 0 → IsBlock (x .image) i bytes
   accepted-block e = by (stores packet) (eqb (blocksOf x) 0) (leb (st .position) i) refl refl refl
     where
-      w : Leaves s st buf (stores packet) (gives (requestOf packet .command)) x
+      w : Leaves s st (requestOf packet) buf (stores packet) (gives (requestOf packet .command)) x
       w = accepted-leaves s st packet buf e
 
       by : (a b c : Bool) → stores packet ≡ a → eqb (blocksOf x) 0 ≡ b → leb (st .position) i ≡ c → IsBlock (x .image) i bytes

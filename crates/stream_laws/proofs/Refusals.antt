@@ -37,7 +37,7 @@ module _ (s : List ℕ) (st : State) (packet buf : List ℕ) where
   refused-by (unruly t g b) f = refusal 3
   refused-by (short p e l) f = refusal 4
   refused-by (ends-early p x e k) f = absurd (f refl)
-  refused-by (works p e l) f = absurd (f (work-leaves s st buf (p .good) (p .ruly) (requestOf packet .command) (requestOf packet) l .number))
+  refused-by (works p e l) f = absurd (f (work-leaves s st (requestOf packet) buf (p .good) (p .ruly) (requestOf packet .command) l .accepted .number))
 
   -- ---- the number that is given is due
 
@@ -48,7 +48,7 @@ module _ (s : List ℕ) (st : State) (packet buf : List ℕ) where
   due (short p e l) = too-short (p .twelve) (p .good) (p .ruly) e l
   due (ends-early p x e k) = accepted (p .twelve) (p .good) (p .ruly) (λ f. absurd (false≢true (sym f ∙ e)))
   due (works p e l) =
-      rw (work-leaves s st buf (p .good) (p .ruly) (requestOf packet .command) (requestOf packet) l .number)
+      rw (work-leaves s st (requestOf packet) buf (p .good) (p .ruly) (requestOf packet .command) l .accepted .number)
       (accepted (p .twelve) (p .good) (p .ruly) (λ f. l))
 
   -- ---- and the number that is due is given
@@ -67,7 +67,7 @@ module _ (s : List ℕ) (st : State) (packet buf : List ℕ) where
   unfolding carriedOut
   accepted-by p (found-early x e k) f = refl
   accepted-by p (found-short e m) f = absurd (omega (arith, f e))
-  accepted-by p (found-clear e m) f = work-leaves s st buf (p .good) (p .ruly) (requestOf packet .command) (requestOf packet) m .number
+  accepted-by p (found-clear e m) f = work-leaves s st (requestOf packet) buf (p .good) (p .ruly) (requestOf packet .command) m .accepted .number
 
   given : {n : ℕ} → Due s st packet buf n → numberOf (packetStep s st packet buf) ≡ n
   unfolding packetStep headerOf judged

@@ -1,6 +1,6 @@
 -- What runs of READ, WRITE and WRITE FILEMARK leave: elements and bytes outside stay, and stored blocks read back.
 -- Assumes nothing.
-use Prim.Native.Nat.{ℕ, zero, suc, _+_, _*_, _≤_, _<_}
+use Prim.Native.Nat.{ℕ, zero, suc, _+_, _*_, _-_, _≤_, _<_}
 use native.Mathlib.Nat.{le-refl}
 use native.Mathlib.Omega.{arith}
 use mathlib.Core.Bool.{Bool, true, false}
@@ -71,6 +71,14 @@ module _ (s : List ℕ) (size kinds blocks end : ℕ) where
   data-moved (at-bad n off p buf h e) j l = absurd (omega arith)
   data-moved (copies n off p buf X h e r) zero l = let y : p + 0 ≡ p = omega arith in rw y (h, e)
   data-moved (copies n off p buf X h e r) (suc j) l = let y : p + suc j ≡ p + 1 + j = omega arith in rw y (data-moved r j (omega arith))
+
+  -- so no more blocks than the end's place
+  pub few-moved : {n off p : ℕ} {buf : List ℕ} {X : Reading} → ReadRun s size kinds blocks end n off p buf X → n - X .moved .left ≤ end
+  few-moved {n = n} {X = X} r = by (n - X .moved .left) refl
+    where
+      by : (k : ℕ) → n - X .moved .left ≡ k → k ≤ end
+      by zero e = omega arith
+      by (suc j) e = omega (arith, data-moved r j (omega arith) .0)
 
   -- READ that starts at a data block moves it
   pub read-first : (n off p : ℕ) (buf : List ℕ) → p < end → kindAt s kinds p ≡ Data

@@ -25,28 +25,29 @@ use Rattle.stream.specs.Packet.{packetLength, packetStep, judged, decided, carr
 use Rattle.stream_parts.specs.Replies.{isProtected}
 use Rattle.stream_parts.specs.Requests.{requestOf}
 use Rattle.stream_parts.specs.Senses.{unitAttention, invalidOpcode, invalidField, wrongListLength, notLoaded, writeProtected}
-use Rattle.stream_parts.specs.States.{keepsRecordRules, highestKey}
+use Rattle.stream_parts.specs.States.{keepsRecordRules}
 use Rattle.stream.specs.Work.{workOf}
 use Rattle.stream_laws.specs.Words.{endsEarly}
+use Rattle.stream_laws.proofs.Endings.{Modest}
 
 -- ---- what is found before the work
 
 module _ (h : Header) (st : State) (q : Request) (room : ℕ) where
   pub data Found : Verdict → Type 0 where
-    found-early : (x : Sense) → endsEarly h st q ≡ true → x .key ≤ highestKey → Found (Ends x)
+    found-early : (x : Sense) → endsEarly h st q ≡ true → Modest 0 x → Found (Ends x)
     found-short : endsEarly h st q ≡ false → room < neededBy (q .command) h q → Found (Refuses shortBuffer)
     found-clear : endsEarly h st q ≡ false → neededBy (q .command) h q ≤ room → Found Works
 
-  attention-key : (a : Attention) → unitAttention a .key ≤ highestKey
-  attention-key Nothing = omega arith
-  attention-key MediumChanged = omega arith
-  attention-key Reset = omega arith
+  attention-modest : (a : Attention) → Modest 0 (unitAttention a)
+  attention-modest Nothing = omega arith
+  attention-modest MediumChanged = omega arith
+  attention-modest Reset = omega arith
 
   found-by : (a b c d e f g : Bool) → endsEarly h st q ≡ (a || b || c || d || e || f) → ltb room (neededBy (q .command) h q) ≡ g
       → Found
       (if a then Ends (unitAttention (st .attention)) else if b then Ends invalidOpcode else if c then Ends invalidField else
       if d then Ends wrongListLength else if e then Ends notLoaded else if f then Ends writeProtected else if g then Refuses shortBuffer else Works)
-  found-by true b c d e f g p t = found-early (unitAttention (st .attention)) p (attention-key (st .attention))
+  found-by true b c d e f g p t = found-early (unitAttention (st .attention)) p (attention-modest (st .attention))
   found-by false true c d e f g p t = found-early invalidOpcode p (omega arith)
   found-by false false true d e f g p t = found-early invalidField p (omega arith)
   found-by false false false true e f g p t = found-early wrongListLength p (omega arith)
@@ -84,7 +85,7 @@ module _ (s : List ℕ) (st : State) (packet buf : List ℕ) where
         → Way (done (refused st brokenRecord) s buf)
     short : Passes → endsEarly (fieldsOf s) st (requestOf packet) ≡ false
         → length buf < neededBy (requestOf packet .command) (fieldsOf s) (requestOf packet) → Way (done (refused st shortBuffer) s buf)
-    ends-early : Passes → (x : Sense) → endsEarly (fieldsOf s) st (requestOf packet) ≡ true → x .key ≤ highestKey → Way (done (endsBefore st x) s buf)
+    ends-early : Passes → (x : Sense) → endsEarly (fieldsOf s) st (requestOf packet) ≡ true → Modest 0 x → Way (done (endsBefore st x) s buf)
     works : Passes → endsEarly (fieldsOf s) st (requestOf packet) ≡ false
         → neededBy (requestOf packet .command) (fieldsOf s) (requestOf packet) ≤ length buf
         → Way (workOf (requestOf packet .command) s (fieldsOf s) st (requestOf packet) buf)
