@@ -10,7 +10,7 @@ use lib.ListN.{getD}
 use mathlib.Core.List.{List}
 use Rattle.numbers.proofs.CountLaws.{count-bound}
 use Rattle.numbers.specs.Counts.{countAt}
-use Rattle.numbers.specs.Choice.{if_then_else_, _≡ᵇ_, _<ᵇ_, _≤ᵇ_}
+use Rattle.numbers.specs.Choice.{if_then_else_, _≡ᵇ_, _<ᵇ_}
 use Rattle.stream_parts.specs.declared.state.Attention.{Attention}
 use Rattle.stream_parts.specs.declared.state.Sense.{Sense}
 use Rattle.stream_parts.specs.declared.state.State.{State}

@@ -2,13 +2,11 @@
 -- Assumes nothing.
 use mathlib.Core.Path.{_≡_, refl}
 use mathlib.Core.Bool.{Bool, true, false, not, _&&_, _||_}
-use mathlib.Core.List.{List, [], _∷_}
-use Prim.Native.Nat.{ℕ, zero, suc, _+_, _-_, _^_, _<_, _≤_, max}
+use Prim.Native.Nat.{ℕ, zero, suc, _+_, _-_, _^_, _<_, _≤_}
 use native.Mathlib.Nat.{pow-le-pow-right, zero-lt-suc}
 use native.Mathlib.Omega.{arith}
-use borrow.Author.Tests.{ne-eqb, eqb-true, leb-true, leb-false, ltb-true, ltb-false, not-false}
+use borrow.Author.Tests.{ne-eqb, leb-true, leb-false, ltb-true, ltb-false, not-false}
 use Rattle.numbers.specs.Choice.{_≡ᵇ_, _<ᵇ_, _≤ᵇ_}
-use Rattle.numbers.specs.Member.{isIn}
 use Rattle.pulse_parts.specs.declared.arguments.Waiting.{Waiting}
 use Rattle.pulse_parts.specs.declared.arguments.Waiting.the-variants.{Nothing, For}
 use Rattle.pulse_parts.specs.declared.cartridge.Cartridge.{Cartridge}
@@ -36,7 +34,7 @@ use Rattle.pulse.specs.Motions.{arrived, latched, loadStarted, runStarted, stop
 use Rattle.pulse.specs.Reports.{errorRead, itemGiven, opened, reportBroken, reportOf, statusAsked, stepOpenReport, stepReport}
 use Rattle.pulse.specs.Rules.{maxFormat, maxKind}
 use Rattle.pulse.specs.Train.{cleared, stepReset, stepUnsupported, trainStep}
-use Rattle.pulse_laws.proofs.Bools.{ands, either, never, or-by, test}
+use Rattle.pulse_laws.proofs.Bools.{ands, either, test}
 use Rattle.pulse_laws.proofs.Calls.{insert-by, remove-by, tick-by, train-by, wait-by}
 use Rattle.pulse_laws.proofs.Commands.{supported-low}
 use Rattle.pulse_laws.proofs.Rules.{Calm, Cart, bare, full, to-rules}

@@ -1,10 +1,10 @@
 -- The header: the ways of `header_of`, what a good header keeps, and that the header goes by its bytes.
 -- Assumes nothing.
-use mathlib.Core.Path.{_≡_, refl, sym, ap, _∙_}
+use mathlib.Core.Path.{_≡_, refl, sym, _∙_}
 use mathlib.Core.Bool.{Bool, true, false, cond, _&&_, _||_, and-false, and-true, false≢true}
 use borrow.Author.Tests.{le-leb, eqb-true}
 use lib.Dec.{eqb}
-use mathlib.Core.List.{List, [], _∷_}
+use mathlib.Core.List.{List}
 use Prim.Native.Nat.{ℕ, _+_, _*_, _<_, _≤_}
 use native.Mathlib.Omega.{arith}
 use native.Mathlib.Nat.{mul-le-mul-right}
@@ -15,7 +15,6 @@ use Rattle.numbers.specs.RuleList.{allHold, Each}
 use Rattle.numbers.proofs.RuleLaws.{split, each-of, pass}
 use Rattle.numbers.proofs.CountLaws.{count-by-bytes}
 use Rattle.image.specs.declared.header.Header.{Header}
-use Rattle.image.specs.declared.header.Judged.{Judged}
 use Rattle.image.specs.declared.header.Judged.the-variants.{Good, Broken}
 use Rattle.image.specs.Header.{blockSizes, fieldsOf, fixedBytes, fieldRanges, placeRules, keepsHeaderRules, headerOf}
 

@@ -3,7 +3,7 @@
 use mathlib.Core.Path.{_≡_, refl, sym, ap, _∙_}
 use mathlib.Core.List.{List}
 use mathlib.Core.Logic.{_⊎_, inl, inr, ⊎-elim}
-use Prim.Native.Nat.{ℕ, suc, _+_, _*_, _-_, _<_, _≤_}
+use Prim.Native.Nat.{ℕ, _+_, _*_, _-_, _<_, _≤_}
 use native.Mathlib.Nat.{mul-le-mul-right}
 use native.Mathlib.Omega.{arith}
 use mathlib.Core.Bool.{Bool, true, false}
@@ -12,17 +12,16 @@ use lib.Dec.{ltb}
 use lib.ListN.{length, set, getD, length-set}
 use lib.Seq.{getD-set-same, getD-set-other}
 use borrow.Rule.Slice.PartMut.{midOf, putMid}
-use Rattle.numbers.specs.Counts.{countAt, putCount}
+use Rattle.numbers.specs.Counts.{countAt}
 use Rattle.numbers.specs.Over.{over, part}
-use Rattle.numbers.specs.RuleList.{Each}
 use Rattle.numbers.proofs.CountLaws.{length-put-count, put-count-below, put-count-above, count-read-back, count-by-bytes}
 use Rattle.numbers.proofs.OverLaws.{over-length, over-below, over-above, over-part, part-same, copied-over}
 use Rattle.image.specs.declared.header.Header.{Header}
 use Rattle.image.specs.declared.header.Judged.the-variants.{Good}
 use Rattle.image.specs.declared.elements.Kind.the-variants.{Data, Filemark}
-use Rattle.image.specs.Header.{fieldsOf, fixedBytes, fieldRanges, placeRules, headerOf, withRecorded}
+use Rattle.image.specs.Header.{fieldsOf, headerOf, withRecorded}
 use Rattle.image.specs.Elements.{kindOf, kindAt, blockAt, recordAs, storeBlock, storeFilemark}
-use Rattle.image.proofs.HeaderLaws.{Sound, sound, fields-are, each-fixed, each-range, each-place, good-by, header-same}
+use Rattle.image.proofs.HeaderLaws.{sound, fields-are, each-fixed, each-range, each-place, good-by, header-same}
 
 -- the code's store is the definition's
 pub stored : (s : List ℕ) (size kinds blocks i a off : ℕ) (src ys zs : List ℕ) → a ≡ i * size

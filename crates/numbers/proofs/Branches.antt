@@ -3,8 +3,8 @@
 use Prim.Native.Nat.{ℕ}
 use mathlib.Core.Bool.{Bool, true, false, not, cond, _&&_, _||_}
 use borrow.Author.Tests.{lt-ltb, le-ltb, le-leb, lt-leb, eq-eqb, ne-eqb}
-use lib.Dec.{ltb, leb, eqb}
-use mathlib.Core.Path.{_≡_, refl, sym, _∙_, ap}
+use lib.Dec.{ltb}
+use mathlib.Core.Path.{_≡_, sym, _∙_}
 
 pub if-true : {A : Type 0} (b : Bool) (x y r : A) → b ≡ true → r ≡ x → r ≡ cond b x y
 if-true b x y r e q = rw e q

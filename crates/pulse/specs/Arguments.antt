@@ -1,7 +1,7 @@
 -- Step 2 of a train: an argument.
 -- Assumes nothing.
 use Prim.Native.Nat.{ℕ, _+_}
-use mathlib.Core.Bool.{Bool, _||_}
+use mathlib.Core.Bool.{_||_}
 use Rattle.numbers.specs.Choice.{if_then_else_, _≡ᵇ_, _<ᵇ_}
 use Rattle.pulse_parts.specs.declared.arguments.Nibble.{Nibble}
 use Rattle.pulse_parts.specs.declared.arguments.Nibble.the-variants.{Value, OutOfRange}

@@ -1,7 +1,7 @@
 -- The public calls, with their refusals. 01: "Pulse order: 8, then 7 or 5, then 6."
 -- Assumes nothing.
 use Prim.Native.Nat.{ℕ}
-use mathlib.Core.Bool.{Bool, false, not, _&&_}
+use mathlib.Core.Bool.{false, not, _&&_}
 use Rattle.numbers.specs.Choice.{if_then_else_, _≡ᵇ_, _≤ᵇ_}
 use Rattle.pulse_parts.specs.declared.cartridge.Cartridge.{Cartridge}
 use Rattle.pulse.specs.declared.calls.Step.{Step}

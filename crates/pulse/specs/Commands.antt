@@ -1,7 +1,7 @@
 -- Step 7 of a train: the other commands.
 -- Assumes nothing.
 use Prim.Native.Nat.{ℕ}
-use mathlib.Core.Bool.{Bool, not, _&&_, _||_}
+use mathlib.Core.Bool.{not, _&&_, _||_}
 use Rattle.numbers.specs.Choice.{if_then_else_, _≡ᵇ_}
 use Rattle.pulse_parts.specs.declared.arguments.Waiting.the-variants.{For}
 use Rattle.pulse_parts.specs.Codes.{pause, stopTape, logicalForward, physicalForward, physicalReverse, seekLoadPoint, needsCartridge, needsReference, stopsMotion}

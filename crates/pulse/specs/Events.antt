@@ -1,7 +1,6 @@
 -- Insertion, removal, and time that passes.
 -- Assumes nothing.
 use Prim.Native.Nat.{ℕ, zero, suc}
-use mathlib.Core.Bool.{Bool}
 use Rattle.numbers.specs.Choice.{if_then_else_}
 use Rattle.pulse_parts.specs.declared.arguments.Waiting.the-variants.{Nothing}
 use Rattle.pulse_parts.specs.declared.cartridge.Cartridge.{Cartridge}

@@ -1,7 +1,6 @@
 -- What moves the tape, what stops it, and an error that is held.
 -- Assumes nothing.
 use Prim.Native.Nat.{ℕ}
-use mathlib.Core.Bool.{Bool}
 use Rattle.numbers.specs.Choice.{if_then_else_, _≡ᵇ_}
 use Rattle.pulse_parts.specs.declared.head.Motion.the-variants.{Run, Load}
 use Rattle.pulse_parts.specs.Faults.{errorHeld}

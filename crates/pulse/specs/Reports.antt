@@ -1,7 +1,7 @@
 -- Steps 3 and 6 of a train: a train in an open report, and a report that opens.
 -- Assumes nothing.
 use Prim.Native.Nat.{ℕ}
-use mathlib.Core.Bool.{Bool, true, false, not, _&&_}
+use mathlib.Core.Bool.{true, false, not, _&&_}
 use Rattle.numbers.specs.Choice.{if_then_else_, _≡ᵇ_}
 use Rattle.pulse_parts.specs.declared.reports.Report.{Report}
 use Rattle.pulse_parts.specs.Codes.{reportNextBit, reportStatus, reportError, reportConfiguration, reportRom, reportVendor, ignored}

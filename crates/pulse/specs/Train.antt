@@ -1,7 +1,7 @@
 -- A train of n pulses: its seven steps, in 01's order.
 -- Assumes nothing.
 use Prim.Native.Nat.{ℕ}
-use mathlib.Core.Bool.{Bool, true, false, not}
+use mathlib.Core.Bool.{true, false, not}
 use Rattle.numbers.specs.Choice.{if_then_else_, _≡ᵇ_, _<ᵇ_}
 use Rattle.pulse_parts.specs.Arguments.{isWaiting}
 use Rattle.pulse_parts.specs.Codes.{softReset, reportNextBit, reportVendor, supported, isReport}

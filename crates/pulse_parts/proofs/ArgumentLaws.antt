@@ -2,14 +2,13 @@
 -- Assumes nothing.
 use Prim.Native.Nat.{ℕ, _-_, _≤_}
 use native.Mathlib.Omega.{arith}
-use mathlib.Core.Bool.{Bool, true, false, cond}
-use mathlib.Core.Path.{_≡_, refl, sym, _∙_}
+use mathlib.Core.Bool.{Bool, true, false}
+use mathlib.Core.Path.{_≡_, refl}
 use borrow.Author.Tests.{ne-eqb, leb-true}
 use Rattle.pulse_parts.specs.Arguments.{needed, inRange, nibbleOf, highestNibble, highestRate}
 use Rattle.pulse_parts.specs.Codes.{seekTrack, selectRate}
 use Rattle.numbers.specs.Choice.{_≡ᵇ_}
-use Rattle.pulse_parts.specs.declared.arguments.Nibble.{Nibble}
-use Rattle.pulse_parts.specs.declared.arguments.Nibble.the-variants.{Value, OutOfRange}
+use Rattle.pulse_parts.specs.declared.arguments.Nibble.the-variants.{Value}
 
 pub needed-none : (code : ℕ) → 36 ≤ code → 0 ≡ needed code
 unfolding needed

@@ -2,8 +2,8 @@
 -- Assumes nothing.
 use Prim.Native.Nat.{ℕ, _<_, _≤_}
 use native.Mathlib.Omega.{arith}
-use mathlib.Core.Bool.{Bool, true, false, not, _&&_, and-false, false≢true}
-use mathlib.Core.Path.{_≡_, refl, sym, _∙_}
+use mathlib.Core.Bool.{Bool, true, false, not, and-false, false≢true}
+use mathlib.Core.Path.{_≡_, refl, sym}
 use borrow.Author.Tests.{lt-leb, lt-ltb, ne-eqb, ltb-true, ltb-false}
 use lib.Dec.{ltb}
 use Rattle.pulse_parts.specs.Codes.{supported, ignored}

@@ -1,6 +1,5 @@
 -- The cartridge's description.
 -- Assumes nothing.
-use Prim.Native.Nat.{ℕ}
 use mathlib.Core.Bool.{Bool, false, not, _&&_}
 use Rattle.numbers.specs.Choice.{_≡ᵇ_}
 use Rattle.pulse_parts.specs.declared.cartridge.Cartridge.{Cartridge}

@@ -1,9 +1,9 @@
 -- The ways of the commands' functions.
 -- Assumes nothing.
-use mathlib.Core.Path.{_≡_, refl, sym, ap, _∙_}
-use mathlib.Core.Bool.{Bool, true, false}
+use mathlib.Core.Path.{_≡_, ap, _∙_}
+use mathlib.Core.Bool.{true, false}
 use mathlib.Core.List.{List, _++_}
-use Prim.Native.Nat.{ℕ, _*_, _-_, _≤_, _<_, min}
+use Prim.Native.Nat.{ℕ, _≤_, min}
 use lib.ListN.{length, take}
 use Rattle.numbers.specs.Over.{over}
 use Rattle.image.specs.declared.header.Header.{Header}
@@ -19,7 +19,7 @@ use Rattle.stream_parts.specs.declared.state.Ending.{Ending}
 use Rattle.stream_parts.specs.declared.state.Ending.the-variants.{Good}
 use Rattle.stream_parts.specs.declared.state.Outcome.{Outcome}
 use Rattle.stream_parts.specs.declared.state.State.{State}
-use Rattle.stream_parts.specs.Answers.{Step, done, ends}
+use Rattle.stream_parts.specs.Answers.{done, ends}
 use Rattle.stream_parts.specs.Checks.{neededBy}
 use Rattle.stream_parts.specs.Replies.{senseBytes, inquiryBytes, hasPage, modeHeader, modePage, modeBytes, positionBytes}
 use Rattle.stream_parts.specs.Requests.{spaceCode, loadBit}

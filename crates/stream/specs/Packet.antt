@@ -1,7 +1,7 @@
 -- What a packet leaves: answer, record, image and buffer, for every packet, image, record and buffer.
 -- Assumes nothing.
 use Prim.Native.Nat.{ℕ}
-use mathlib.Core.Bool.{Bool, not}
+use mathlib.Core.Bool.{not}
 use mathlib.Core.List.{List}
 use lib.ListN.{length}
 use Rattle.numbers.specs.Choice.{if_then_else_, _≡ᵇ_}

@@ -5,7 +5,6 @@ use mathlib.Core.List.{List}
 use Rattle.stream_parts.specs.declared.state.Attention.the-variants.{Nothing}
 use Rattle.stream_parts.specs.declared.state.Ending.{Ending}
 use Rattle.stream_parts.specs.declared.state.Ending.the-variants.{Good, Check}
-use Rattle.stream_parts.specs.declared.state.Answer.{Answer}
 use Rattle.stream_parts.specs.declared.state.Outcome.{Outcome}
 use Rattle.stream_parts.specs.declared.state.Sense.{Sense}
 use Rattle.stream_parts.specs.declared.state.State.{State}

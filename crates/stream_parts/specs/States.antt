@@ -1,12 +1,12 @@
 -- 01: "Record: position P; loaded; attention (none, medium changed, reset); speed; sense (key, ASC, ASCQ, filemark, EOM, valid, information)."
 -- Assumes nothing.
 use Prim.Native.Nat.{ℕ}
-use mathlib.Core.Bool.{Bool, true, false, _&&_}
+use mathlib.Core.Bool.{Bool, true, _&&_}
 use mathlib.Core.List.{List, [], _∷_}
 use Rattle.numbers.specs.Choice.{_≤ᵇ_}
 use Rattle.numbers.specs.Member.{isIn}
 use Rattle.image.specs.declared.header.Header.{Header}
-use Rattle.stream_parts.specs.declared.state.Attention.the-variants.{Nothing, MediumChanged, Reset}
+use Rattle.stream_parts.specs.declared.state.Attention.the-variants.{MediumChanged, Reset}
 use Rattle.stream_parts.specs.declared.state.Sense.{Sense}
 use Rattle.stream_parts.specs.declared.state.State.{State}
 use Rattle.stream_parts.specs.Senses.{noSense}

@@ -1,6 +1,6 @@
 -- `header::keeps_places` meets its contract.
 -- Assumes nothing.
-use mathlib.Core.Path.{sym, _∙_}
+use mathlib.Core.Path.{sym}
 use native.Mathlib.Omega.{arith}
 use Rattle.numbers.proofs.RuleLaws.{fail, pass}
 use borrow.Author.Needs.{needs}

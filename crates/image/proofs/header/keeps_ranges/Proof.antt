@@ -1,8 +1,8 @@
 -- `header::keeps_ranges` meets its contract.
 -- Assumes nothing.
-use mathlib.Core.Path.{sym, _∙_}
+use mathlib.Core.Path.{sym}
 use native.Mathlib.Omega.{arith}
-use Rattle.numbers.proofs.RuleLaws.{fail, pass}
+use Rattle.numbers.proofs.RuleLaws.{fail}
 use Rattle.image.proofs.HeaderLaws.{by-size}
 use borrow.Author.Needs.{needs}
 use Rattle.image.proofs.header.keeps_ranges.Statement.{statement}

@@ -1,7 +1,7 @@
 -- `work::mode_sense` meets its contract.
 -- Assumes nothing.
 use native.Mathlib.Omega.{arith}
-use mathlib.Core.Path.{sym, _∙_}
+use mathlib.Core.Path.{_∙_}
 use Rattle.stream.proofs.WorkLaws.{replied-as, with-page, without-page}
 use borrow.Author.Needs.{needs}
 use Rattle.stream.proofs.work.mode_sense.Statement.{statement}

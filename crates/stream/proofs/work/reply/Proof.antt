@@ -1,7 +1,7 @@
 -- `work::reply` meets its contract.
 -- Assumes nothing.
 use native.Mathlib.Omega.{arith}
-use mathlib.Core.Path.{sym, _∙_}
+use mathlib.Core.Path.{sym}
 use lib.Seq.{length-take-le}
 use Rattle.stream.proofs.WorkLaws.{reply-went}
 use borrow.Author.Needs.{needs}

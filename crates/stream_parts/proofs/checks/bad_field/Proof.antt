@@ -1,7 +1,6 @@
 -- `checks::bad_field` meets its contract.
 -- Assumes nothing.
-use mathlib.Core.Path.{_≡_, sym, ap, _∙_}
-use Prim.Native.Nat.{ℕ, min}
+use mathlib.Core.Path.{sym, ap}
 use Rattle.opcodes.specs.declared.Command.{Command}
 use Rattle.stream_parts.specs.Checks.{badFieldOf}
 use borrow.Author.Needs.{needs}

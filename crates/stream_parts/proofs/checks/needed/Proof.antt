@@ -1,6 +1,6 @@
 -- `checks::needed` meets its contract.
 -- Assumes nothing.
-use mathlib.Core.Path.{_≡_, sym, ap, _∙_}
+use mathlib.Core.Path.{sym, ap, _∙_}
 use Prim.Native.Nat.{ℕ, min}
 use Rattle.opcodes.specs.declared.Command.{Command}
 use Rattle.stream_parts.specs.Checks.{neededBy}
