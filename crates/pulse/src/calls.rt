@@ -1,7 +1,7 @@
 // The public calls, with their refusals. 01: "Pulse order: 8, then 7 or 5, then 6."
 ghost use mathlib.Core.Path.{_≡_};
 ghost use Rattle.pulse.specs.Events.{runFor, stepsTo};
-ghost use Rattle.pulse.specs.Calls.{refused, accepted, refusedWait, acceptedWait, trainCall, tickCall, insertCall, removeCall, waitCall, byteCall};
+ghost use Rattle.pulse.specs.Calls.{refused, accepted, acceptedWait, trainCall, tickCall, insertCall, removeCall, waitCall, byteCall};
 use crate::drive::Drive;
 use crate::rules;
 use pulse_parts::Cartridge;

@@ -1,6 +1,6 @@
 // A train of n pulses: its seven steps, in 01's order.
 ghost use mathlib.Core.Path.{_≡_};
-ghost use Rattle.pulse.specs.Train.{cleared, stepReset, stepNextBit, stepUnsupported, trainStep};
+ghost use Rattle.pulse.specs.Train.{cleared, stepReset, stepUnsupported, trainStep};
 use crate::drive::Drive;
 use pulse_parts::Waiting;
 use pulse_parts::arguments;

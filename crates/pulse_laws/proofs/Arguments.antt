@@ -1,10 +1,10 @@
 -- Step 2 of a train, an argument, keeps the rules.
 -- Assumes nothing.
-use Prim.Native.Nat.{ℕ, _+_, _-_}
+use Prim.Native.Nat.{ℕ, _+_}
 use native.Mathlib.Nat.{lt-irrefl}
 use native.Mathlib.Omega.{arith}
 use mathlib.Core.Bool.{true, false, not, _||_, or-false}
-use mathlib.Core.Path.{_≡_, refl, sym, _∙_, subst}
+use mathlib.Core.Path.{_≡_, refl, sym, _∙_}
 use borrow.Author.Tests.{ltb-true, not-true}
 use Rattle.numbers.specs.Choice.{_<ᵇ_, _≡ᵇ_, _≤ᵇ_}
 use Rattle.numbers.specs.Member.{isIn}
@@ -21,26 +21,11 @@ use Rattle.pulse.specs.declared.drive.Drive.{Drive}
 use Rattle.pulse.specs.Arguments.{argumentFor, argumentOr, argumentRead, argumentTaken, nibbleTaken, skipped, stepArgument, trackSought}
 use Rattle.pulse.specs.Drives.{withRate, withoutArguments}
 use Rattle.pulse.specs.Rules.{isFree}
+use Rattle.pulse_parts.proofs.ArgumentLaws.{value-in-range}
 use Rattle.pulse_laws.proofs.Bools.{and-l, and-r, ands, either, never, or-r, test}
 use Rattle.pulse_laws.proofs.Motion.{within}
 use Rattle.pulse_laws.proofs.Rules.{Calm, Cart, Rules, Waits, bare, full}
 use Rattle.pulse_laws.proofs.Idle.{Idle, idle-rules, latch-idle, run-idle}
-
--- what a value that was read keeps to
-in-range : (code n v : ℕ) → nibbleOf code n ≡ Value v → inRange code v ≡ true
-unfolding nibbleOf
-in-range code n v e = test (inRange code (n - 2)) yes no
-  where
-    yes : inRange code (n - 2) ≡ true → inRange code v ≡ true
-    yes p =
-        let q : Value (n - 2) ≡ Value v = rw p at e in
-        let s : n - 2 ≡ v = cc in
-        subst (λ (x : ℕ). inRange code x ≡ true) s p
-
-    no : inRange code (n - 2) ≡ false → inRange code v ≡ true
-    no p =
-        let q : OutOfRange ≡ Value v = rw p at e in
-        cc
 
 -- a code that waits for arguments, and neither seeks a track nor selects a rate, skips
 skips : (code held : ℕ) → (held <ᵇ needed code) ≡ true → (code ≡ᵇ seekTrack) ≡ false → (code ≡ᵇ selectRate) ≡ false → isSkip code ≡ true
@@ -127,7 +112,7 @@ module _ (d : Drive) (code held low : ℕ) (r : Calm d) (w : Waits (For code hel
   read-rules n = by (nibbleOf code n) refl
     where
       by : (x : Nibble) → nibbleOf code n ≡ x → Rules (argumentOr d code held low x)
-      by (Value v) e = taken-rules v (in-range code n v e)
+      by (Value v) e = taken-rules v (value-in-range code n v e)
       by OutOfRange e = (r, refl)
 
 pub argument-rules : (d : Drive) (n : ℕ) → Rules d → Rules (stepArgument d n)

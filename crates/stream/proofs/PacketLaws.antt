@@ -20,7 +20,7 @@ use Rattle.stream_parts.specs.declared.state.State.{State}
 use Rattle.stream_parts.specs.declared.state.Verdict.{Verdict}
 use Rattle.stream_parts.specs.declared.state.Verdict.the-variants.{Refuses, Ends, Works}
 use Rattle.stream_parts.specs.Answers.{done, refused, endsBefore, shortBuffer}
-use Rattle.stream_parts.specs.Checks.{isPending, conditionsOf, isUnknown, badFieldOf, badListLengthOf, neededBy, verdictOf}
+use Rattle.stream_parts.specs.Checks.{isPending, conditionsOf, badFieldOf, wrongLength, neededBy, verdictOf}
 use Rattle.stream.specs.Packet.{carriedOut, decided, judged, packetStep}
 use Rattle.stream_parts.specs.Replies.{isProtected}
 use Rattle.stream_parts.specs.Requests.{requestOf}
@@ -52,21 +52,21 @@ module _ (h : Header) (st : State) (q : Request) (room : ℕ) where
   from-tape = cond (conditionsOf (q .command) .mounted && not (st .loaded)) (Ends notLoaded) from-protection
 
   abbrev from-length : Verdict
-  from-length = cond (badListLengthOf (q .command) q) (Ends wrongListLength) from-tape
+  from-length = cond (conditionsOf (q .command) .listed && wrongLength (q .length)) (Ends wrongListLength) from-tape
 
   abbrev from-fields : Verdict
   from-fields = cond (badFieldOf (q .command) q) (Ends invalidField) from-length
 
   abbrev from-opcode : Verdict
-  from-opcode = cond (isUnknown (q .command)) (Ends invalidOpcode) from-fields
+  from-opcode = cond (not (conditionsOf (q .command) .known)) (Ends invalidOpcode) from-fields
 
   pub works-room : (v : Verdict) → v ≡ verdictOf h st q room → v ≡ Works → neededBy (q .command) h q ≤ room
   unfolding verdictOf
   works-room v p e =
       let e0 = past (isPending (st .attention) && not (conditionsOf (q .command) .exempt)) (unitAttention (st .attention)) from-opcode (sym p ∙ e) in
-      let e1 = past (isUnknown (q .command)) invalidOpcode from-fields e0 in
+      let e1 = past (not (conditionsOf (q .command) .known)) invalidOpcode from-fields e0 in
       let e2 = past (badFieldOf (q .command) q) invalidField from-length e1 in
-      let e3 = past (badListLengthOf (q .command) q) wrongListLength from-tape e2 in
+      let e3 = past (conditionsOf (q .command) .listed && wrongLength (q .length)) wrongListLength from-tape e2 in
       let e4 = past (conditionsOf (q .command) .mounted && not (st .loaded)) notLoaded from-protection e3 in
       let e5 = past (conditionsOf (q .command) .stores && isProtected h) writeProtected (cond short (Refuses shortBuffer) Works) e4 in
       ltb-false room (neededBy (q .command) h q) (last short shortBuffer e5)

@@ -305,7 +305,7 @@ module _ (s : List ℕ) (st : State) (q : Request) (buf : List ℕ) (good : keep
   -- ---- by command
 
   pub work-leaves : (c : Command) → neededBy c h q ≤ length buf → Leaves s st q buf (conditionsOf c .stores) (gives c) (workOf c s h st q buf)
-  unfolding workOf neededBy conditionsOf
+  unfolding workOf neededBy
   work-leaves Unknown l = quiet st Good 0 (kept-rules .place) (kept-rules .speed) (omega arith)
   work-leaves TestUnitReady l = quiet st Good 0 (kept-rules .place) (kept-rules .speed) (omega arith)
   work-leaves Rewind l = quiet (atPlace st 0) Good 0 (omega arith) (kept-rules .speed) (omega arith)

@@ -20,7 +20,7 @@ use Rattle.stream_parts.specs.declared.state.State.{State}
 use Rattle.stream_parts.specs.declared.state.Verdict.{Verdict}
 use Rattle.stream_parts.specs.declared.state.Verdict.the-variants.{Refuses, Ends, Works}
 use Rattle.stream_parts.specs.Answers.{Step, done, refused, endsBefore, notTwelveBytes, brokenRecord, shortBuffer}
-use Rattle.stream_parts.specs.Checks.{conditionsOf, isPending, isUnknown, badFieldOf, badListLengthOf, neededBy, verdictOf}
+use Rattle.stream_parts.specs.Checks.{conditionsOf, isPending, badFieldOf, wrongLength, neededBy, verdictOf}
 use Rattle.stream.specs.Packet.{packetLength, packetStep, judged, decided, carriedOut}
 use Rattle.stream_parts.specs.Replies.{isProtected}
 use Rattle.stream_parts.specs.Requests.{requestOf}
@@ -59,8 +59,8 @@ module _ (h : Header) (st : State) (q : Request) (room : ℕ) where
   pub found : Found (verdictOf h st q room)
   unfolding verdictOf endsEarly
   found =
-      found-by (isPending (st .attention) && not (conditionsOf (q .command) .exempt)) (isUnknown (q .command)) (badFieldOf (q .command) q)
-      (badListLengthOf (q .command) q) (conditionsOf (q .command) .mounted && not (st .loaded)) (conditionsOf (q .command) .stores && isProtected h)
+      found-by (isPending (st .attention) && not (conditionsOf (q .command) .exempt)) (not (conditionsOf (q .command) .known)) (badFieldOf (q .command) q)
+      (conditionsOf (q .command) .listed && wrongLength (q .length)) (conditionsOf (q .command) .mounted && not (st .loaded)) (conditionsOf (q .command) .stores && isProtected h)
       (ltb room (neededBy (q .command) h q)) refl refl
 
 -- ---- the whole packet

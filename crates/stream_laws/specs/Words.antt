@@ -19,7 +19,7 @@ use Rattle.stream_parts.specs.declared.state.Sense.{Sense}
 use Rattle.stream_parts.specs.declared.state.State.{State}
 use Rattle.stream_parts.specs.declared.state.Verdict.the-variants.{Works}
 use Rattle.stream_parts.specs.Answers.{Step, notTwelveBytes, brokenRecord, shortBuffer}
-use Rattle.stream_parts.specs.Checks.{conditionsOf, isPending, isUnknown, badFieldOf, badListLengthOf, neededBy, verdictOf}
+use Rattle.stream_parts.specs.Checks.{conditionsOf, isPending, badFieldOf, wrongLength, neededBy, verdictOf}
 use Rattle.stream.specs.Packet.{packetLength, packetStep}
 use Rattle.stream_parts.specs.Replies.{isProtected}
 use Rattle.stream_parts.specs.Requests.{requestOf}
@@ -61,9 +61,9 @@ pub record Refusal (s : List ℕ) (st : State) (buf : List ℕ) (x : Step) : Typ
 unfoldable pub endsEarly : Header → State → Request → Bool
 endsEarly h st q =
     (isPending (st .attention) && not (conditionsOf (q .command) .exempt))
-    || isUnknown (q .command)
+    || not (conditionsOf (q .command) .known)
     || badFieldOf (q .command) q
-    || badListLengthOf (q .command) q
+    || (conditionsOf (q .command) .listed && wrongLength (q .length))
     || (conditionsOf (q .command) .mounted && not (st .loaded))
     || (conditionsOf (q .command) .stores && isProtected h)
 

@@ -19,43 +19,52 @@ use Rattle.stream_parts.specs.Replies.{senseLength, inquiryLength, modeL
 use Rattle.stream_parts.specs.Requests.{fixedBlocks, spaceCode, overBlocks, overFilemarks, toEndOfData, pageCode, headerAlone, devicePage, shortList, fullList, loadBit, eotBit, partitionBit}
 use Rattle.stream_parts.specs.Senses.{unitAttention, invalidOpcode, invalidField, wrongListLength, notLoaded, writeProtected}
 
--- "A pending attention ends any packet but 03h and 12h"; "Not loaded 2/3A/00, for all but 03h, 12h, 15h, 1Ah, 1Bh"; "Write protected 7/27/00, for 0Ah and 10h"
-unfoldable pub conditionsOf : Command → Conditions
-conditionsOf Unknown = record { exempt = false; mounted = true; stores = false }
-conditionsOf TestUnitReady = record { exempt = false; mounted = true; stores = false }
-conditionsOf Rewind = record { exempt = false; mounted = true; stores = false }
-conditionsOf RequestSense = record { exempt = true; mounted = false; stores = false }
-conditionsOf Read = record { exempt = false; mounted = true; stores = false }
-conditionsOf Write = record { exempt = false; mounted = true; stores = true }
-conditionsOf WriteFilemarks = record { exempt = false; mounted = true; stores = true }
-conditionsOf Space = record { exempt = false; mounted = true; stores = false }
-conditionsOf Inquiry = record { exempt = true; mounted = false; stores = false }
-conditionsOf ModeSelect = record { exempt = false; mounted = false; stores = false }
-conditionsOf ModeSense = record { exempt = false; mounted = false; stores = false }
-conditionsOf LoadUnload = record { exempt = false; mounted = false; stores = false }
-conditionsOf Locate = record { exempt = false; mounted = true; stores = false }
-conditionsOf ReadPosition = record { exempt = false; mounted = true; stores = false }
+-- ---- the conditions of a command
 
-unfoldable pub isPending : Attention → Bool
+abbrev pub noCommand : Conditions
+noCommand = record { known = false; exempt = false; listed = false; mounted = false; stores = false }
+
+-- 03h and 12h: "A pending attention ends any packet but 03h and 12h"
+abbrev pub always : Conditions
+always = record { known = true; exempt = true; listed = false; mounted = false; stores = false }
+
+-- 1Ah and 1Bh: "Not loaded 2/3A/00, for all but 03h, 12h, 15h, 1Ah, 1Bh"
+abbrev pub settings : Conditions
+settings = record { known = true; exempt = false; listed = false; mounted = false; stores = false }
+
+-- 15h, which is never not loaded either
+abbrev pub settingsList : Conditions
+settingsList = record { known = true; exempt = false; listed = true; mounted = false; stores = false }
+
+abbrev pub onTape : Conditions
+onTape = record { known = true; exempt = false; listed = false; mounted = true; stores = false }
+
+-- "Write protected 7/27/00, for 0Ah and 10h"
+abbrev pub storing : Conditions
+storing = record { known = true; exempt = false; listed = false; mounted = true; stores = true }
+
+abbrev pub conditionsOf : Command → Conditions
+conditionsOf Unknown = noCommand
+conditionsOf TestUnitReady = onTape
+conditionsOf Rewind = onTape
+conditionsOf RequestSense = always
+conditionsOf Read = onTape
+conditionsOf Write = storing
+conditionsOf WriteFilemarks = storing
+conditionsOf Space = onTape
+conditionsOf Inquiry = always
+conditionsOf ModeSelect = settingsList
+conditionsOf ModeSense = settings
+conditionsOf LoadUnload = settings
+conditionsOf Locate = onTape
+conditionsOf ReadPosition = onTape
+
+-- ---- what can end a packet, or refuse it, before its work
+
+abbrev pub isPending : Attention → Bool
 isPending Nothing = false
 isPending MediumChanged = true
 isPending Reset = true
-
-unfoldable pub isUnknown : Command → Bool
-isUnknown Unknown = true
-isUnknown TestUnitReady = false
-isUnknown Rewind = false
-isUnknown RequestSense = false
-isUnknown Read = false
-isUnknown Write = false
-isUnknown WriteFilemarks = false
-isUnknown Space = false
-isUnknown Inquiry = false
-isUnknown ModeSelect = false
-isUnknown ModeSense = false
-isUnknown LoadUnload = false
-isUnknown Locate = false
-isUnknown ReadPosition = false
 
 -- "Bad field 5/24/00", by command
 unfoldable pub badFieldOf : Command → Request → Bool
@@ -75,21 +84,8 @@ badFieldOf Locate q = partitionBit q
 badFieldOf ReadPosition q = false
 
 -- 15h: "list length (byte 4, a field) 0, 12 or 32, else 5/1A/00"
-unfoldable pub badListLengthOf : Command → Request → Bool
-badListLengthOf Unknown q = false
-badListLengthOf TestUnitReady q = false
-badListLengthOf Rewind q = false
-badListLengthOf RequestSense q = false
-badListLengthOf Read q = false
-badListLengthOf Write q = false
-badListLengthOf WriteFilemarks q = false
-badListLengthOf Space q = false
-badListLengthOf Inquiry q = false
-badListLengthOf ModeSelect q = not ((q .length ≡ᵇ 0) || (q .length ≡ᵇ shortList) || (q .length ≡ᵇ fullList))
-badListLengthOf ModeSense q = false
-badListLengthOf LoadUnload q = false
-badListLengthOf Locate q = false
-badListLengthOf ReadPosition q = false
+abbrev pub wrongLength : ℕ → Bool
+wrongLength length = not ((length ≡ᵇ 0) || (length ≡ᵇ shortList) || (length ≡ᵇ fullList))
 
 -- 4: the room that "this transfer needs" in the data buffer
 unfoldable pub neededBy : Command → Header → Request → ℕ
@@ -112,9 +108,9 @@ neededBy ReadPosition h q = positionLength
 unfoldable pub verdictOf : Header → State → Request → ℕ → Verdict
 verdictOf h st q room =
     if isPending (st .attention) && not (conditionsOf (q .command) .exempt) then Ends (unitAttention (st .attention)) else
-    if isUnknown (q .command) then Ends invalidOpcode else
+    if not (conditionsOf (q .command) .known) then Ends invalidOpcode else
     if badFieldOf (q .command) q then Ends invalidField else
-    if badListLengthOf (q .command) q then Ends wrongListLength else
+    if conditionsOf (q .command) .listed && wrongLength (q .length) then Ends wrongListLength else
     if conditionsOf (q .command) .mounted && not (st .loaded) then Ends notLoaded else
     if conditionsOf (q .command) .stores && isProtected h then Ends writeProtected else
     if room <ᵇ neededBy (q .command) h q then Refuses shortBuffer else

@@ -2,8 +2,7 @@
 ghost use mathlib.Core.Path.{_≡_};
 ghost use Prim.Native.Nat.{_*_, _^_, _<_, _≤_, min};
 ghost use Rattle.numbers.specs.Member.{isIn};
-ghost use Rattle.stream_parts.specs.Checks.{conditionsOf, isPending, isUnknown, badFieldOf, badListLengthOf, neededBy, verdictOf};
-ghost use Rattle.stream_parts.specs.Replies.{isProtected, modeLength};
+ghost use Rattle.stream_parts.specs.Checks.{noCommand, always, settings, settingsList, onTape, storing, conditionsOf, isPending, badFieldOf, wrongLength, neededBy, verdictOf};
 ghost use Rattle.stream_parts.specs.States.{speeds, keepsRecordRules};
 use crate::replies::mode_length;
 use crate::requests::DEVICE_PAGE;
@@ -38,18 +37,82 @@ const HIGHEST_KEY: u8 = 15;
 const SHORT_BUFFER: u8 = 4;
 
 pub struct Conditions {
+    pub known: bool, // one of the thirteen commands
     pub exempt: bool, // answered whatever attention is pending
+    pub listed: bool, // takes a list, whose length is a field
     pub mounted: bool, // needs a loaded cartridge
     pub stores: bool, // stores on the cartridge
 }
 
-fn conditions_with(exempt: bool, mounted: bool, stores: bool) -> Conditions
-    ensures { λ r. ⌜ r ≡ record { exempt = exempt; mounted = mounted; stores = stores } ⌝ }
+fn no_command() -> Conditions
+    ensures { λ r. ⌜ r ≡ noCommand ⌝ }
 {
     Conditions {
-        exempt,
-        mounted,
-        stores,
+        known: false,
+        exempt: false,
+        listed: false,
+        mounted: false,
+        stores: false,
+    }
+}
+
+fn always() -> Conditions
+    ensures { λ r. ⌜ r ≡ always ⌝ }
+{
+    Conditions {
+        known: true,
+        exempt: true,
+        listed: false,
+        mounted: false,
+        stores: false,
+    }
+}
+
+fn settings() -> Conditions
+    ensures { λ r. ⌜ r ≡ settings ⌝ }
+{
+    Conditions {
+        known: true,
+        exempt: false,
+        listed: false,
+        mounted: false,
+        stores: false,
+    }
+}
+
+fn settings_list() -> Conditions
+    ensures { λ r. ⌜ r ≡ settingsList ⌝ }
+{
+    Conditions {
+        known: true,
+        exempt: false,
+        listed: true,
+        mounted: false,
+        stores: false,
+    }
+}
+
+fn on_tape() -> Conditions
+    ensures { λ r. ⌜ r ≡ onTape ⌝ }
+{
+    Conditions {
+        known: true,
+        exempt: false,
+        listed: false,
+        mounted: true,
+        stores: false,
+    }
+}
+
+fn storing() -> Conditions
+    ensures { λ r. ⌜ r ≡ storing ⌝ }
+{
+    Conditions {
+        known: true,
+        exempt: false,
+        listed: false,
+        mounted: true,
+        stores: true,
     }
 }
 
@@ -57,20 +120,20 @@ fn conditions_of(command: Command) -> Conditions
     ensures { λ r. ⌜ r ≡ conditionsOf command ⌝ }
 {
     match command {
-        Command::Unknown => conditions_with(false, true, false),
-        Command::TestUnitReady => conditions_with(false, true, false),
-        Command::Rewind => conditions_with(false, true, false),
-        Command::RequestSense => conditions_with(true, false, false),
-        Command::Read => conditions_with(false, true, false),
-        Command::Write => conditions_with(false, true, true),
-        Command::WriteFilemarks => conditions_with(false, true, true),
-        Command::Space => conditions_with(false, true, false),
-        Command::Inquiry => conditions_with(true, false, false),
-        Command::ModeSelect => conditions_with(false, false, false),
-        Command::ModeSense => conditions_with(false, false, false),
-        Command::LoadUnload => conditions_with(false, false, false),
-        Command::Locate => conditions_with(false, true, false),
-        Command::ReadPosition => conditions_with(false, true, false),
+        Command::Unknown => no_command(),
+        Command::TestUnitReady => on_tape(),
+        Command::Rewind => on_tape(),
+        Command::RequestSense => always(),
+        Command::Read => on_tape(),
+        Command::Write => storing(),
+        Command::WriteFilemarks => storing(),
+        Command::Space => on_tape(),
+        Command::Inquiry => always(),
+        Command::ModeSelect => settings_list(),
+        Command::ModeSense => settings(),
+        Command::LoadUnload => settings(),
+        Command::Locate => on_tape(),
+        Command::ReadPosition => on_tape(),
     }
 }
 
@@ -81,27 +144,6 @@ fn is_pending(attention: Attention) -> bool
         Attention::Nothing => false,
         Attention::MediumChanged => true,
         Attention::Reset => true,
-    }
-}
-
-fn is_unknown(command: Command) -> bool
-    ensures { λ r. ⌜ r ≡ isUnknown command ⌝ }
-{
-    match command {
-        Command::Unknown => true,
-        Command::TestUnitReady => false,
-        Command::Rewind => false,
-        Command::RequestSense => false,
-        Command::Read => false,
-        Command::Write => false,
-        Command::WriteFilemarks => false,
-        Command::Space => false,
-        Command::Inquiry => false,
-        Command::ModeSelect => false,
-        Command::ModeSense => false,
-        Command::LoadUnload => false,
-        Command::Locate => false,
-        Command::ReadPosition => false,
     }
 }
 
@@ -135,27 +177,11 @@ fn bad_field(q: Request) -> bool
     }
 }
 
-fn bad_list_length(q: Request) -> bool
-    ensures { λ r. ⌜ r ≡ badListLengthOf (q .command) q ⌝ }
+// 01: "list length (byte 4, a field) 0, 12 or 32"
+fn wrong_length(length: u8) -> bool
+    ensures { λ r. ⌜ r ≡ wrongLength length ⌝ }
 {
-    let command = q.command;
-    let wrong = !((q.length == 0) | (q.length == SHORT_LIST) | (q.length == FULL_LIST));
-    match command {
-        Command::Unknown => false,
-        Command::TestUnitReady => false,
-        Command::Rewind => false,
-        Command::RequestSense => false,
-        Command::Read => false,
-        Command::Write => false,
-        Command::WriteFilemarks => false,
-        Command::Space => false,
-        Command::Inquiry => false,
-        Command::ModeSelect => wrong,
-        Command::ModeSense => false,
-        Command::LoadUnload => false,
-        Command::Locate => false,
-        Command::ReadPosition => false,
-    }
+    !((length == 0) | (length == SHORT_LIST) | (length == FULL_LIST))
 }
 
 pub fn least(a: usize, b: usize) -> usize
@@ -212,7 +238,7 @@ pub fn verdict(h: Header, state: State, q: Request, room: usize) -> Verdict
     if held {
         return Verdict::Ends(unit_attention(attention));
     }
-    let unknown = is_unknown(command);
+    let unknown = !conditions.known;
     if unknown {
         return Verdict::Ends(invalid_opcode());
     }
@@ -220,7 +246,7 @@ pub fn verdict(h: Header, state: State, q: Request, room: usize) -> Verdict
     if field {
         return Verdict::Ends(invalid_field());
     }
-    let length = bad_list_length(q);
+    let length = conditions.listed & wrong_length(q.length);
     if length {
         return Verdict::Ends(wrong_list_length());
     }

@@ -3,7 +3,7 @@ ghost use mathlib.Core.Path.{_≡_};
 ghost use mathlib.Core.List.{_++_};
 ghost use Prim.Native.Nat.{_%_, _≤_};
 ghost use Rattle.numbers.specs.Choice.{if_then_else_, _≡ᵇ_};
-ghost use Rattle.stream_parts.specs.Replies.{bit, senseBytes, inquiryBytes, modeHeader, modePage, positionBytes};
+ghost use Rattle.stream_parts.specs.Replies.{bit, senseBytes, modeHeader, modePage, positionBytes};
 ghost use Rattle.stream_parts.specs.Requests.{devicePage, shortList, fullList};
 use crate::requests::DEVICE_PAGE;
 use crate::state::Sense;

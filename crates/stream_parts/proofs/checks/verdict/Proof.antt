@@ -18,15 +18,12 @@ returns : tie.Need-returns
 unfolding verdictOf
 returns c = simp (c .unit-attention .ensures, c .before .if1 .taken, ← c .before .before .before .is-pending .ensures, ← c .before .before .before .before .conditions-of .ensures)
 
-is-unknown-requires : tie.Need-is-unknown-requires
-is-unknown-requires c κs = search needs
-
 invalid-opcode-requires : tie.Need-invalid-opcode-requires
 invalid-opcode-requires c κs = search needs
 
 returns-2 : tie.Need-returns-2
 unfolding verdictOf
-returns-2 c = simp (c .invalid-opcode .ensures, c .before .if2 .taken, ← c .before .before .is-unknown .ensures, c .before .before .before .if1 .left, ← c .before .before .before .before .before .is-pending .ensures, ← c .before .before .before .before .before .before .conditions-of .ensures)
+returns-2 c = simp (c .invalid-opcode .ensures, c .before .if2 .taken, c .before .before .before .if1 .left, ← c .before .before .before .before .before .is-pending .ensures, ← c .before .before .before .before .before .before .conditions-of .ensures)
 
 bad-field-requires : tie.Need-bad-field-requires
 bad-field-requires c κs = search needs
@@ -36,42 +33,42 @@ invalid-field-requires c κs = search needs
 
 returns-3 : tie.Need-returns-3
 unfolding verdictOf
-returns-3 c = simp (c .invalid-field .ensures, c .before .if3 .taken, ← c .before .before .bad-field .ensures, c .before .before .before .if2 .left, ← c .before .before .before .before .is-unknown .ensures, c .before .before .before .before .before .if1 .left, ← c .before .before .before .before .before .before .before .is-pending .ensures, ← c .before .before .before .before .before .before .before .before .conditions-of .ensures)
+returns-3 c = simp (c .invalid-field .ensures, c .before .if3 .taken, ← c .before .before .bad-field .ensures, c .before .before .before .if2 .left, c .before .before .before .before .before .if1 .left, ← c .before .before .before .before .before .before .before .is-pending .ensures, ← c .before .before .before .before .before .before .before .before .conditions-of .ensures)
 
-bad-list-length-requires : tie.Need-bad-list-length-requires
-bad-list-length-requires c κs = search needs
+wrong-length-requires : tie.Need-wrong-length-requires
+wrong-length-requires c κs = search needs
 
 wrong-list-length-requires : tie.Need-wrong-list-length-requires
 wrong-list-length-requires c κs = search needs
 
 returns-4 : tie.Need-returns-4
 unfolding verdictOf
-returns-4 c = simp (c .wrong-list-length .ensures, c .before .if4 .taken, ← c .before .before .bad-list-length .ensures, c .before .before .before .if3 .left, ← c .before .before .before .before .bad-field .ensures, c .before .before .before .before .before .if2 .left, ← c .before .before .before .before .before .before .is-unknown .ensures, c .before .before .before .before .before .before .before .if1 .left, ← c .before .before .before .before .before .before .before .before .before .is-pending .ensures, ← c .before .before .before .before .before .before .before .before .before .before .conditions-of .ensures)
+returns-4 c = simp (c .wrong-list-length .ensures, c .before .if4 .taken, ← c .before .before .before .wrong-length .ensures, c .before .before .before .before .if3 .left, ← c .before .before .before .before .before .bad-field .ensures, c .before .before .before .before .before .before .if2 .left, c .before .before .before .before .before .before .before .before .if1 .left, ← c .before .before .before .before .before .before .before .before .before .before .is-pending .ensures, ← c .before .before .before .before .before .before .before .before .before .before .before .conditions-of .ensures)
 
 not-loaded-requires : tie.Need-not-loaded-requires
 not-loaded-requires c κs = search needs
 
 returns-5 : tie.Need-returns-5
 unfolding verdictOf
-returns-5 c = simp (c .not-loaded .ensures, c .before .if5 .taken, c .before .before .before .before .if4 .left, ← c .before .before .before .before .before .bad-list-length .ensures, c .before .before .before .before .before .before .if3 .left, ← c .before .before .before .before .before .before .before .bad-field .ensures, c .before .before .before .before .before .before .before .before .if2 .left, ← c .before .before .before .before .before .before .before .before .before .is-unknown .ensures, c .before .before .before .before .before .before .before .before .before .before .if1 .left, ← c .before .before .before .before .before .before .before .before .before .before .before .before .is-pending .ensures, ← c .before .before .before .before .before .before .before .before .before .before .before .before .before .conditions-of .ensures)
+returns-5 c = simp (c .not-loaded .ensures, c .before .if5 .taken, c .before .before .before .before .if4 .left, ← c .before .before .before .before .before .before .wrong-length .ensures, c .before .before .before .before .before .before .before .if3 .left, ← c .before .before .before .before .before .before .before .before .bad-field .ensures, c .before .before .before .before .before .before .before .before .before .if2 .left, c .before .before .before .before .before .before .before .before .before .before .before .if1 .left, ← c .before .before .before .before .before .before .before .before .before .before .before .before .before .is-pending .ensures, ← c .before .before .before .before .before .before .before .before .before .before .before .before .before .before .conditions-of .ensures)
 
 write-protected-requires : tie.Need-write-protected-requires
 write-protected-requires c κs = search needs
 
 returns-6 : tie.Need-returns-6
 unfolding verdictOf
-returns-6 c = simp (c .write-protected .ensures, c .before .if6 .taken, c .before .before .before .before .if5 .left, c .before .before .before .before .before .before .before .if4 .left, ← c .before .before .before .before .before .before .before .before .bad-list-length .ensures, c .before .before .before .before .before .before .before .before .before .if3 .left, ← c .before .before .before .before .before .before .before .before .before .before .bad-field .ensures, c .before .before .before .before .before .before .before .before .before .before .before .if2 .left, ← c .before .before .before .before .before .before .before .before .before .before .before .before .is-unknown .ensures, c .before .before .before .before .before .before .before .before .before .before .before .before .before .if1 .left, ← c .before .before .before .before .before .before .before .before .before .before .before .before .before .before .before .is-pending .ensures, ← c .before .before .before .before .before .before .before .before .before .before .before .before .before .before .before .before .conditions-of .ensures)
+returns-6 c = simp (c .write-protected .ensures, c .before .if6 .taken, c .before .before .before .before .if5 .left, c .before .before .before .before .before .before .before .if4 .left, ← c .before .before .before .before .before .before .before .before .before .wrong-length .ensures, c .before .before .before .before .before .before .before .before .before .before .if3 .left, ← c .before .before .before .before .before .before .before .before .before .before .before .bad-field .ensures, c .before .before .before .before .before .before .before .before .before .before .before .before .if2 .left, c .before .before .before .before .before .before .before .before .before .before .before .before .before .before .if1 .left, ← c .before .before .before .before .before .before .before .before .before .before .before .before .before .before .before .before .is-pending .ensures, ← c .before .before .before .before .before .before .before .before .before .before .before .before .before .before .before .before .before .conditions-of .ensures)
 
 needed-requires : tie.Need-needed-requires
 needed-requires c κs = search needs
 
 returns-7 : tie.Need-returns-7
 unfolding verdictOf
-returns-7 c = simp (c .if7 .taken, ← c .before .needed .ensures, c .before .before .if6 .left, c .before .before .before .before .before .if5 .left, c .before .before .before .before .before .before .before .before .if4 .left, ← c .before .before .before .before .before .before .before .before .before .bad-list-length .ensures, c .before .before .before .before .before .before .before .before .before .before .if3 .left, ← c .before .before .before .before .before .before .before .before .before .before .before .bad-field .ensures, c .before .before .before .before .before .before .before .before .before .before .before .before .if2 .left, ← c .before .before .before .before .before .before .before .before .before .before .before .before .before .is-unknown .ensures, c .before .before .before .before .before .before .before .before .before .before .before .before .before .before .if1 .left, ← c .before .before .before .before .before .before .before .before .before .before .before .before .before .before .before .before .is-pending .ensures, ← c .before .before .before .before .before .before .before .before .before .before .before .before .before .before .before .before .before .conditions-of .ensures)
+returns-7 c = simp (c .if7 .taken, ← c .before .needed .ensures, c .before .before .if6 .left, c .before .before .before .before .before .if5 .left, c .before .before .before .before .before .before .before .before .if4 .left, ← c .before .before .before .before .before .before .before .before .before .before .wrong-length .ensures, c .before .before .before .before .before .before .before .before .before .before .before .if3 .left, ← c .before .before .before .before .before .before .before .before .before .before .before .before .bad-field .ensures, c .before .before .before .before .before .before .before .before .before .before .before .before .before .if2 .left, c .before .before .before .before .before .before .before .before .before .before .before .before .before .before .before .if1 .left, ← c .before .before .before .before .before .before .before .before .before .before .before .before .before .before .before .before .before .is-pending .ensures, ← c .before .before .before .before .before .before .before .before .before .before .before .before .before .before .before .before .before .before .conditions-of .ensures)
 
 returns-8 : tie.Need-returns-8
 unfolding verdictOf
-returns-8 c = simp (c .if7 .left, ← c .before .needed .ensures, c .before .before .if6 .left, c .before .before .before .before .before .if5 .left, c .before .before .before .before .before .before .before .before .if4 .left, ← c .before .before .before .before .before .before .before .before .before .bad-list-length .ensures, c .before .before .before .before .before .before .before .before .before .before .if3 .left, ← c .before .before .before .before .before .before .before .before .before .before .before .bad-field .ensures, c .before .before .before .before .before .before .before .before .before .before .before .before .if2 .left, ← c .before .before .before .before .before .before .before .before .before .before .before .before .before .is-unknown .ensures, c .before .before .before .before .before .before .before .before .before .before .before .before .before .before .if1 .left, ← c .before .before .before .before .before .before .before .before .before .before .before .before .before .before .before .before .is-pending .ensures, ← c .before .before .before .before .before .before .before .before .before .before .before .before .before .before .before .before .before .conditions-of .ensures)
+returns-8 c = simp (c .if7 .left, ← c .before .needed .ensures, c .before .before .if6 .left, c .before .before .before .before .before .if5 .left, c .before .before .before .before .before .before .before .before .if4 .left, ← c .before .before .before .before .before .before .before .before .before .before .wrong-length .ensures, c .before .before .before .before .before .before .before .before .before .before .before .if3 .left, ← c .before .before .before .before .before .before .before .before .before .before .before .before .bad-field .ensures, c .before .before .before .before .before .before .before .before .before .before .before .before .before .if2 .left, c .before .before .before .before .before .before .before .before .before .before .before .before .before .before .before .if1 .left, ← c .before .before .before .before .before .before .before .before .before .before .before .before .before .before .before .before .before .is-pending .ensures, ← c .before .before .before .before .before .before .before .before .before .before .before .before .before .before .before .before .before .before .conditions-of .ensures)
 
 pub verdict-spec : {M : Type 1} → statement M
 verdict-spec =
@@ -81,13 +78,12 @@ verdict-spec =
     is-pending-requires
     unit-attention-requires
     returns
-    is-unknown-requires
     invalid-opcode-requires
     returns-2
     bad-field-requires
     invalid-field-requires
     returns-3
-    bad-list-length-requires
+    wrong-length-requires
     wrong-list-length-requires
     returns-4
     not-loaded-requires
