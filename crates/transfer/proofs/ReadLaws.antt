@@ -13,7 +13,7 @@ use borrow.Rule.Slice.PartMut.{midOf, putMid}
 use lib.ListN.{length, getD, length-take}
 use Rattle.numbers.specs.Choice.{if_then_else_}
 use Rattle.numbers.specs.Over.{over, part}
-use Rattle.numbers.proofs.OverLaws.{part-length, part-same, over-length, over-below, over-above, over-part, copied-over}
+use Rattle.numbers.proofs.OverLaws.{part-length, part-same, over-length, over-below, over-part, copied-over}
 use Rattle.image.specs.declared.elements.Kind.{Kind}
 use Rattle.image.specs.declared.elements.Kind.the-variants.{Data, Filemark, Unreadable}
 use Rattle.image.specs.Elements.{kindAt, blockAt}
@@ -105,17 +105,16 @@ module _ (s : List ℕ) (size kinds blocks end : ℕ) where
   unfolding blockAt
   at-most p = rw length-take (omega arith)
 
-  -- the n blocks' part of the buffer, from off on, is all that changes
-  record Kept (n off : ℕ) (buf new : List ℕ) : Type 0 where
+  -- the buffer keeps its length, and its bytes before off
+  record Kept (off : ℕ) (buf new : List ℕ) : Type 0 where
     size-kept : length new ≡ length buf
     before-kept : (i : ℕ) → i < off → getD new i 0 ≡ getD buf i 0
-    beyond-kept : (i : ℕ) → off + n * size ≤ i → getD new i 0 ≡ getD buf i 0
 
-  run-kept : {n off p : ℕ} {buf : List ℕ} {X : Reading} → ReadRun n off p buf X → off + n * size ≤ length buf → Kept n off buf (X .buf)
-  run-kept (full off p buf) l = record { size-kept = refl; before-kept = λ i h. refl; beyond-kept = λ i h. refl }
-  run-kept (at-end n off p buf h) l = record { size-kept = refl; before-kept = λ i h. refl; beyond-kept = λ i h. refl }
-  run-kept (at-mark n off p buf h e) l = record { size-kept = refl; before-kept = λ i h. refl; beyond-kept = λ i h. refl }
-  run-kept (at-bad n off p buf h e) l = record { size-kept = refl; before-kept = λ i h. refl; beyond-kept = λ i h. refl }
+  run-kept : {n off p : ℕ} {buf : List ℕ} {X : Reading} → ReadRun n off p buf X → off + n * size ≤ length buf → Kept off buf (X .buf)
+  run-kept (full off p buf) l = record { size-kept = refl; before-kept = λ i h. refl }
+  run-kept (at-end n off p buf h) l = record { size-kept = refl; before-kept = λ i h. refl }
+  run-kept (at-mark n off p buf h e) l = record { size-kept = refl; before-kept = λ i h. refl }
+  run-kept (at-bad n off p buf h e) l = record { size-kept = refl; before-kept = λ i h. refl }
   run-kept (copies n off p buf X h e r) l =
       let m = at-most p in
       let o = over-length buf (blockAt s size blocks p) off (omega arith) in
@@ -123,7 +122,6 @@ module _ (s : List ℕ) (size kinds blocks end : ℕ) where
       record {
         size-kept = k .size-kept ∙ o;
         before-kept = λ i h. k .before-kept i (omega arith) ∙ over-below buf (blockAt s size blocks p) off i (omega arith) h;
-        beyond-kept = λ i h. k .beyond-kept i (omega arith) ∙ over-above buf (blockAt s size blocks p) off i (omega arith) (omega arith);
       }
 
   -- the j-th of the blocks that were moved
@@ -166,13 +164,6 @@ module _ (s : List ℕ) (size kinds blocks end : ℕ) where
 
     pub read-length : off + n * size ≤ length buf → length (readFrom s size kinds blocks end n off p buf .buf) ≡ length buf
     read-length l = run-kept (read-run n off p buf) l .size-kept
-
-    pub read-before : off + n * size ≤ length buf → (i : ℕ) → i < off → getD (readFrom s size kinds blocks end n off p buf .buf) i 0 ≡ getD buf i 0
-    read-before l = run-kept (read-run n off p buf) l .before-kept
-
-    pub read-beyond : off + n * size ≤ length buf → (i : ℕ) → off + n * size ≤ i
-        → getD (readFrom s size kinds blocks end n off p buf .buf) i 0 ≡ getD buf i 0
-    read-beyond l = run-kept (read-run n off p buf) l .beyond-kept
 
     -- each block moved has come whole
     pub read-block : off + n * size ≤ length buf → blocks + end * size ≤ length s

@@ -55,20 +55,18 @@ module _ (kinds end p : ℕ) (s : List ℕ) (X : Writing) where
 -- ---- the whole run
 
 -- from place p on, n were asked for: each one done is one place
-record Advanced (end n p : ℕ) (m : Moved) : Type 0 where
+record Advanced (n p : ℕ) (m : Moved) : Type 0 where
   ended : Ended n m
-  within : p ≤ end → m .place ≤ end
   passed : m .place + m .left ≡ p + n
 
-module _ (end : ℕ) where
-  advanced-full : (p : ℕ) → Advanced end 0 p (halts p 0 Full)
-  advanced-full p = record { ended = ended-full p; within = λ h. h; passed = refl }
+advanced-full : (p : ℕ) → Advanced 0 p (halts p 0 Full)
+advanced-full p = record { ended = ended-full p; passed = refl }
 
-  advanced-end : (n p : ℕ) → Advanced end (suc n) p (halts p (suc n) AtEnd)
-  advanced-end n p = record { ended = ended-short (suc n) p AtEnd (omega arith) end-short; within = λ h. h; passed = refl }
+advanced-end : (n p : ℕ) → Advanced (suc n) p (halts p (suc n) AtEnd)
+advanced-end n p = record { ended = ended-short (suc n) p AtEnd (omega arith) end-short; passed = refl }
 
-  advanced-on : (n p : ℕ) (m : Moved) → p < end → Advanced end n (p + 1) m → Advanced end (suc n) p m
-  advanced-on n p m l a = record { ended = ended-on n (suc n) m (omega arith) (a .ended); within = λ h. a .within (omega arith); passed = omega (arith, a .passed) }
+advanced-on : (n p : ℕ) (m : Moved) → Advanced n (p + 1) m → Advanced (suc n) p m
+advanced-on n p m a = record { ended = ended-on n (suc n) m (omega arith) (a .ended); passed = omega (arith, a .passed) }
 
 module _ (size kinds blocks end : ℕ) (src : List ℕ) where
   -- how WRITE of n blocks goes, step by step, to its outcome
@@ -90,13 +88,13 @@ module _ (size kinds blocks end : ℕ) (src : List ℕ) where
   write-run (suc n) off p s =
       one-write (leb end p) n off p s _ refl (write-run n (off + size) (p + 1) (storeBlock s size kinds blocks p (part src off size)))
 
-  write-ends : {n off p : ℕ} {s : List ℕ} {X : Writing} → WriteRun n off p s X → Advanced end n p (X .moved)
-  write-ends (full off p s) = advanced-full end p
-  write-ends (at-end n off p s h) = advanced-end end n p
-  write-ends (stores n off p s X h r) = advanced-on end n p (X .moved) h (write-ends r)
+  write-ends : {n off p : ℕ} {s : List ℕ} {X : Writing} → WriteRun n off p s X → Advanced n p (X .moved)
+  write-ends (full off p s) = advanced-full p
+  write-ends (at-end n off p s h) = advanced-end n p
+  write-ends (stores n off p s X h r) = advanced-on n p (X .moved) (write-ends r)
 
   module _ (n off p : ℕ) (s : List ℕ) where
-    write-advanced : Advanced end n p (writeFrom size kinds blocks end src n off p s .moved)
+    write-advanced : Advanced n p (writeFrom size kinds blocks end src n off p s .moved)
     write-advanced = write-ends (write-run n off p s)
 
     pub write-ended : Ended n (writeFrom size kinds blocks end src n off p s .moved)
@@ -104,9 +102,6 @@ module _ (size kinds blocks end : ℕ) (src : List ℕ) where
 
     pub write-left : writeFrom size kinds blocks end src n off p s .moved .left ≤ n
     write-left = write-ended .less
-
-    pub write-place : p ≤ end → writeFrom size kinds blocks end src n off p s .moved .place ≤ end
-    write-place = write-advanced .within
 
     pub write-passed : writeFrom size kinds blocks end src n off p s .moved .place + writeFrom size kinds blocks end src n off p s .moved .left ≡ p + n
     write-passed = write-advanced .passed
@@ -128,13 +123,13 @@ module _ (kinds end : ℕ) where
   mark-run zero p s = full p s
   mark-run (suc n) p s = one-mark (leb end p) n p s _ refl (mark-run n (p + 1) (storeFilemark s kinds p))
 
-  mark-ends : {n p : ℕ} {s : List ℕ} {X : Writing} → MarkRun n p s X → Advanced end n p (X .moved)
-  mark-ends (full p s) = advanced-full end p
-  mark-ends (at-end n p s h) = advanced-end end n p
-  mark-ends (stores n p s X h r) = advanced-on end n p (X .moved) h (mark-ends r)
+  mark-ends : {n p : ℕ} {s : List ℕ} {X : Writing} → MarkRun n p s X → Advanced n p (X .moved)
+  mark-ends (full p s) = advanced-full p
+  mark-ends (at-end n p s h) = advanced-end n p
+  mark-ends (stores n p s X h r) = advanced-on n p (X .moved) (mark-ends r)
 
   module _ (n p : ℕ) (s : List ℕ) where
-    mark-advanced : Advanced end n p (markFrom kinds end n p s .moved)
+    mark-advanced : Advanced n p (markFrom kinds end n p s .moved)
     mark-advanced = mark-ends (mark-run n p s)
 
     pub mark-ended : Ended n (markFrom kinds end n p s .moved)
@@ -142,9 +137,6 @@ module _ (kinds end : ℕ) where
 
     pub mark-left : markFrom kinds end n p s .moved .left ≤ n
     mark-left = mark-ended .less
-
-    pub mark-place : p ≤ end → markFrom kinds end n p s .moved .place ≤ end
-    mark-place = mark-advanced .within
 
     pub mark-passed : markFrom kinds end n p s .moved .place + markFrom kinds end n p s .moved .left ≡ p + n
     mark-passed = mark-advanced .passed
