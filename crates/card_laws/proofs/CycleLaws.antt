@@ -102,7 +102,7 @@ needed-most code =
     most-of-three ((code ≡ᵇ seekTrack) || (code ≡ᵇ selectRate)) ((code ≡ᵇ skipReverse) || (code ≡ᵇ skipForward))
     ((code ≡ᵇ skipExtendedReverse) || (code ≡ᵇ skipExtendedForward))
 
-few-held : (w : Waiting) (free referenced : Bool) → waitingFits w free referenced ≡ true → waitedHeld w ≤ 4
+pub few-held : (w : Waiting) (free referenced : Bool) → waitingFits w free referenced ≡ true → waitedHeld w ≤ 4
 few-held Nothing free referenced e = omega arith
 few-held (For code held value) free referenced e =
     let l : held < needed code = ltb-true held (needed code) (search ands) in

@@ -1,4 +1,4 @@
--- Whatever bytes a call of the pulse drive is given, those it leaves spell what the engine's call left.
+-- Whatever bytes a call of the pulse drive is given, those it leaves are bytes that spell what the engine's call left.
 -- Assumes nothing.
 use mathlib.Core.Path.{_≡_, sym}
 use mathlib.Core.Bool.{Bool, true, not}
@@ -9,9 +9,10 @@ use native.Mathlib.Omega.{arith}
 use borrow.Author.Tests.{eqb-true, eqb-false, not-false}
 use Rattle.numbers.specs.Choice.{_≡ᵇ_}
 use Rattle.numbers.specs.Counts.{countAt}
+use Rattle.pulse_parts.specs.declared.cartridge.Cartridge.{Cartridge}
 use Rattle.pulse.specs.declared.calls.Waited.{Waited}
 use Rattle.pulse.specs.declared.drive.Drive.{Drive}
-use Rattle.pulse.specs.Calls.{notRefused, waitCall}
+use Rattle.pulse.specs.Calls.{notRefused, trainCall, tickCall, insertCall, removeCall, waitCall}
 use Rattle.pulse.specs.Drives.{isReady, powerOn}
 use Rattle.pulse.specs.Events.{stepsTo}
 use Rattle.pulse.specs.Motions.{ticked}
@@ -23,48 +24,83 @@ use Rattle.pulse_laws.proofs.Calls.{wait-by}
 use Rattle.pulse_laws.proofs.Kept.{rules-kept}
 use Rattle.records.specs.PulseRecord.{decodeDrive, encodeDrive, encodeTold, describedCartridge, describedPlace}
 use Rattle.tapecard.specs.PulseCalls.{pulseLeft, pulsePowerOn, pulseTrain, pulseTick, pulseInsert, pulseRemove, pulseWait}
-use Rattle.card_laws.specs.Promises.{FitsBytes, PulseFollows}
+use Rattle.card_laws.specs.Promises.{Bytes, FitsBytes, PulseFollows, StaysBytes}
+use Rattle.card_laws.proofs.BytesKept.{encoded-bytes}
 use Rattle.card_laws.proofs.ByteLaws.{four-back}
 use Rattle.card_laws.proofs.CycleLaws.{drive-back, drive-fits}
 use Rattle.card_laws.proofs.DriveFits.{power-on-fits, train-fits, tick-fits, insert-fits, remove-fits, wait-fits}
 
--- an accepted call leaves a drive that is read back, a refused one the drive that was read
-left-follows : (state : List ℕ) (number : ℕ) (level : Bool) (ticks : ℕ) (d : Drive) {second : ℕ} {holds outside : Bool}
+-- an accepted call leaves a drive that keeps the rules, a refused one the drive that was read; both fit their bytes
+record Sound (state : List ℕ) (number : ℕ) (d : Drive) : Type 0 where
+  ruly : number ≡ notRefused → keepsRules d ≡ true
+  kept : number ≢ notRefused → d ≡ decodeDrive state
+  fits : FitsBytes d
+
+sound : {state : List ℕ} {number : ℕ} {d : Drive} {second : ℕ} {holds outside : Bool}
     → Exactly number (not (keepsRules (decodeDrive state))) second holds outside
-    → (keepsRules (decodeDrive state) ≡ true → keepsRules d ≡ true) → FitsBytes d
-    → (number ≢ notRefused → d ≡ decodeDrive state)
-    → decodeDrive (pulseLeft state number level ticks d .state) ≡ d
+    → (keepsRules (decodeDrive state) ≡ true → keepsRules d ≡ true) → (number ≢ notRefused → d ≡ decodeDrive state) → FitsBytes d → Sound state number d
+sound e rules kept fits = record { ruly = λ z. rules (not-false _ (e .zero .0 z .0)); kept = kept; fits = fits }
+
+module _ (state : List ℕ) (b : Bytes state) where
+  abbrev d : Drive
+  d = decodeDrive state
+
+  f : FitsBytes d
+  f = drive-fits state b
+
+  train-sound : (n : ℕ) → Sound state (trainCall d n .number) (trainCall d n .drive)
+  train-sound n = sound (number-exactly .train d n) (rules-kept .train d n) (λ k. refused-keeps .train d n k .1) (train-fits d f n)
+
+  tick-sound : Sound state (tickCall d .number) (tickCall d .drive)
+  tick-sound = sound (number-exactly .tick d) (rules-kept .tick d) (λ k. refused-keeps .tick d k .1) (tick-fits d f)
+
+  insert-sound : (c : Cartridge) (place : ℕ) → Sound state (insertCall d c place .number) (insertCall d c place .drive)
+  insert-sound c place =
+      sound (number-exactly .insert d c place) (rules-kept .insert d c place) (λ k. refused-keeps .insert d c place k .1) (insert-fits d f c place)
+
+  remove-sound : Sound state (removeCall d .number) (removeCall d .drive)
+  remove-sound = sound (number-exactly .remove d) (rules-kept .remove d) (λ k. refused-keeps .remove d k .1) (remove-fits d f)
+
+  wait-sound : (limit : ℕ) → Sound state (waitCall d limit .number) (waitCall d limit .drive)
+  wait-sound limit = sound (number-exactly .wait d limit) (rules-kept .wait d limit) (λ k. refused-keeps .wait d limit k .2) (wait-fits d f limit)
+
+-- ---- what is left spells the drive
+
+follows : (state : List ℕ) (number : ℕ) (level : Bool) (ticks : ℕ) (d : Drive) → Sound state number d → decodeDrive (pulseLeft state number level ticks d .state) ≡ d
 unfolding pulseLeft
-left-follows state number level ticks d e rules fits kept =
-    either (λ s. decodeDrive s ≡ d) (number ≡ᵇ notRefused) (encodeDrive d) state
-    (λ z. drive-back d (rules (not-false _ (e .zero .0 (eqb-true number notRefused z) .0))) fits)
-    (λ z. sym (kept (eqb-false number notRefused z)))
+follows state number level ticks d x =
+    either (λ s. decodeDrive s ≡ d) (number ≡ᵇ notRefused) (encodeDrive d) state (λ z. drive-back d (x .ruly (eqb-true number notRefused z)) (x .fits))
+    (λ z. sym (x .kept (eqb-false number notRefused z)))
 
 pub pulse-follows : PulseFollows
 unfolding pulsePowerOn pulseTrain pulseTick pulseInsert pulseRemove pulseWait
 pulse-follows =
     record {
       power-on = λ vendor rom v r. drive-back (powerOn vendor rom) (rules-kept .power-on vendor rom) (power-on-fits vendor rom v r);
-      train = λ state n b.
-          let d = decodeDrive state in
-          left-follows state _ _ _ _ (number-exactly .train d n) (rules-kept .train d n) (train-fits d (drive-fits state b) n)
-          (λ k. refused-keeps .train d n k .1);
-      tick = λ state b.
-          let d = decodeDrive state in
-          left-follows state _ _ _ _ (number-exactly .tick d) (rules-kept .tick d) (tick-fits d (drive-fits state b)) (λ k. refused-keeps .tick d k .1);
-      insert = λ state cartridge b.
-          let d = decodeDrive state in
-          let c = describedCartridge cartridge in
-          let s = describedPlace cartridge in
-          left-follows state _ _ _ _ (number-exactly .insert d c s) (rules-kept .insert d c s) (insert-fits d (drive-fits state b) c s)
-          (λ k. refused-keeps .insert d c s k .1);
-      remove = λ state b.
-          let d = decodeDrive state in
-          left-follows state _ _ _ _ (number-exactly .remove d) (rules-kept .remove d) (remove-fits d (drive-fits state b)) (λ k. refused-keeps .remove d k .1);
-      wait = λ state limit b.
-          let d = decodeDrive state in
-          left-follows state _ _ _ _ (number-exactly .wait d limit) (rules-kept .wait d limit) (wait-fits d (drive-fits state b) limit)
-          (λ k. refused-keeps .wait d limit k .2);
+      train = λ state n b. follows state _ _ _ _ (train-sound state b n);
+      tick = λ state b. follows state _ _ _ _ (tick-sound state b);
+      insert = λ state cartridge b. follows state _ _ _ _ (insert-sound state b (describedCartridge cartridge) (describedPlace cartridge));
+      remove = λ state b. follows state _ _ _ _ (remove-sound state b);
+      wait = λ state limit b. follows state _ _ _ _ (wait-sound state b limit);
+    }
+
+-- ---- and what is left are bytes
+
+bytes-left : (state : List ℕ) (number : ℕ) (level : Bool) (ticks : ℕ) (d : Drive) → Bytes state → Sound state number d → Bytes (pulseLeft state number level ticks d .state)
+unfolding pulseLeft
+bytes-left state number level ticks d b x =
+    either Bytes (number ≡ᵇ notRefused) (encodeDrive d) state (λ z. encoded-bytes d (x .ruly (eqb-true number notRefused z)) (x .fits)) (λ z. b)
+
+pub stays-bytes : StaysBytes
+unfolding pulsePowerOn pulseTrain pulseTick pulseInsert pulseRemove pulseWait
+stays-bytes =
+    record {
+      power-on = λ vendor rom v r. encoded-bytes (powerOn vendor rom) (rules-kept .power-on vendor rom) (power-on-fits vendor rom v r);
+      train = λ state n b. bytes-left state _ _ _ _ b (train-sound state b n);
+      tick = λ state b. bytes-left state _ _ _ _ b (tick-sound state b);
+      insert = λ state cartridge b. bytes-left state _ _ _ _ b (insert-sound state b (describedCartridge cartridge) (describedPlace cartridge));
+      remove = λ state b. bytes-left state _ _ _ _ b (remove-sound state b);
+      wait = λ state limit b. bytes-left state _ _ _ _ b (wait-sound state b limit);
     }
 
 -- ---- the ticks of a wait

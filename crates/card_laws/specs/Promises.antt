@@ -2,7 +2,7 @@
 -- Assumes nothing.
 use mathlib.Core.Path.{_≡_}
 use mathlib.Core.Bool.{true}
-use mathlib.Core.List.{List}
+use mathlib.Core.List.{List, map}
 use Prim.Native.Nat.{ℕ, _^_, _<_}
 use lib.ListN.{getD}
 use Rattle.stream_parts.specs.declared.state.State.{State}
@@ -12,7 +12,9 @@ use Rattle.pulse.specs.declared.drive.Drive.{Drive}
 use Rattle.pulse.specs.Calls.{trainCall, tickCall, insertCall, removeCall, waitCall}
 use Rattle.pulse.specs.Drives.{powerOn}
 use Rattle.pulse.specs.Rules.{keepsRules}
-use Rattle.pulse_laws.specs.Runs.{Settles}
+use Rattle.pulse_laws.specs.Demands.{Recovered}
+use Rattle.pulse_laws.specs.Runs.{Settles, answers, recoveryTrains, silentTicks}
+use Rattle.card_laws.specs.Sessions.{answersOn, ticksOn, told, trainsOn}
 use Rattle.stream_parts.specs.States.{freshState, changedState}
 use Rattle.stream.specs.Packet.{packetStep}
 use Rattle.stream_laws.specs.Words.{stateOf, blocksOf, bytesOf}
@@ -107,6 +109,27 @@ pub record PulseFollows : Type 0 where
       → decodeDrive (pulseInsert state cartridge .state) ≡ insertCall (decodeDrive state) (describedCartridge cartridge) (describedPlace cartridge) .drive
   pub remove : (state : List ℕ) → Bytes state → decodeDrive (pulseRemove state .state) ≡ removeCall (decodeDrive state) .drive
   pub wait : (state : List ℕ) (limit : ℕ) → Bytes state → decodeDrive (pulseWait state limit .state) ≡ waitCall (decodeDrive state) limit .drive
+
+-- and what they leave are bytes again, so this holds call after call
+pub record StaysBytes : Type 0 where
+  pub power-on : (vendor rom : ℕ) → vendor < 2 ^ 16 → rom < 2 ^ 8 → Bytes (pulsePowerOn vendor rom)
+  pub train : (state : List ℕ) (n : ℕ) → Bytes state → Bytes (pulseTrain state n .state)
+  pub tick : (state : List ℕ) → Bytes state → Bytes (pulseTick state .state)
+  pub insert : (state cartridge : List ℕ) → Bytes state → Bytes (pulseInsert state cartridge .state)
+  pub remove : (state : List ℕ) → Bytes state → Bytes (pulseRemove state .state)
+  pub wait : (state : List ℕ) (limit : ℕ) → Bytes state → Bytes (pulseWait state limit .state)
+
+-- "From any reachable pulse state with a cartridge in: after as many silent ticks as a track has segments, the 46 recovery trains ..", on the bytes
+-- themselves: whatever 32 bytes spell a drive that keeps the rules, with a cartridge in
+pub record BytesRecovered (before rested last : List ℕ) : Type 0 where
+  pub drive : Recovered (decodeDrive before) (decodeDrive rested) (decodeDrive last)
+  pub answered : answersOn rested recoveryTrains ≡ map told (answers (decodeDrive rested) recoveryTrains)
+
+abbrev pub CardRecovers : Type 0
+CardRecovers =
+    (state : List ℕ) → Bytes state → keepsRules (decodeDrive state) ≡ true → decodeDrive state .marks .inside ≡ true
+    → BytesRecovered state (ticksOn (silentTicks (decodeDrive state)) state)
+    (trainsOn (ticksOn (silentTicks (decodeDrive state)) state) recoveryTrains)
 
 -- and no count of an answer is cut: "4-7 blocks; 8-11 bytes" of a packet, "4-7 ticks" of a wait
 

@@ -14,3 +14,4 @@ pub mod Reading
 pub mod Recovery
 pub mod Answers
 pub mod PlateTable
+pub mod Levels

@@ -17,7 +17,7 @@ use Rattle.pulse.specs.Calls.{alreadySo, byteCall, emptyTrain, insertCall, notR
 use Rattle.pulse.specs.Drives.{isReady, powerOn}
 use Rattle.pulse.specs.Rules.{keepsRules}
 use Rattle.pulse_laws.specs.Plates.{every, plates}
-use Rattle.pulse_laws.specs.Runs.{Exactly, KeepsIfRefused, Reachable, Settles, afterTicks, afterTrains, answers, beforeErrorReport, distance, outsideItsRanges, placeAfter, recoveryTrains, silentTicks, spelled}
+use Rattle.pulse_laws.specs.Runs.{Exactly, KeepsIfRefused, Reachable, Settles, afterTicks, afterTrains, answers, beforeErrorReport, distance, namesLevel, outsideItsRanges, placeAfter, recoveryTrains, silentTicks, spelled}
 
 -- 01: "Every record that power-on or a call gives keeps the record rules."
 pub record RulesKept : Type 0 where
@@ -66,6 +66,14 @@ WaitCounts =
 -- a wait call leads to no drive that ticks do not lead to
 abbrev pub WaitReaches : Type 0
 WaitReaches = (d : Drive) (limit : ℕ) → Reachable d → Reachable (waitCall d limit .drive)
+
+-- 01: "A train or event with no level named below keeps the level."
+pub record LevelKept : Type 0 where
+  pub train : (d : Drive) (n : ℕ) → namesLevel d n ≡ false → trainCall d n .drive .level ≡ d .level
+  pub tick : (d : Drive) → tickCall d .drive .level ≡ d .level
+  pub insert : (d : Drive) (cart : Cartridge) (place : ℕ) → insertCall d cart place .drive .level ≡ d .level
+  pub remove : (d : Drive) → removeCall d .drive .level ≡ d .level
+  pub wait : (d : Drive) (limit : ℕ) → waitCall d limit .drive .level ≡ d .level
 
 -- "the 46 recovery trains leave the drive ready, with no error, no new mark and no open report; their bits name the error that was held;
 -- the tape stands still": after each of the trains, and at the end

@@ -1,7 +1,7 @@
 -- Calls one after the other, and the measures that the demands speak of.
 -- Assumes nothing.
 use Prim.Native.Nat.{ℕ, zero, suc, _+_, _-_, _*_, _/_, _%_, min, max}
-use mathlib.Core.Bool.{Bool, true, false, not, _&&_}
+use mathlib.Core.Bool.{Bool, true, false, not, _&&_, _||_}
 use mathlib.Core.List.{List, [], _∷_, _++_}
 use mathlib.Core.Logic.{_↔_, _≢_}
 use mathlib.Core.Path.{_≡_}
@@ -9,7 +9,9 @@ use lib.ListN.{replicate}
 use Rattle.numbers.specs.Choice.{_≡ᵇ_, _≤ᵇ_, if_then_else_}
 use Rattle.pulse_parts.specs.declared.cartridge.Cartridge.{Cartridge}
 use Rattle.pulse_parts.specs.declared.fault.Fault.{Fault}
-use Rattle.pulse_parts.specs.Codes.{reportError, reportNextBit, reportStatus}
+use Rattle.pulse_parts.specs.Arguments.{isWaiting}
+use Rattle.pulse_parts.specs.Codes.{ignored, isReport, reportError, reportNextBit, reportStatus, softReset}
+use Rattle.pulse_parts.specs.Reports.{isOpen}
 use Rattle.pulse.specs.declared.calls.Step.{Step}
 use Rattle.pulse.specs.declared.drive.Drive.{Drive}
 use Rattle.pulse.specs.Calls.{brokenRecord, insertCall, notRefused, outsideRanges, removeCall, tickCall, trainCall}
@@ -87,6 +89,12 @@ unfoldable pub placeAfter : ℕ → ℕ → ℕ → ℕ
 placeAfter k place target =
     if place ≤ᵇ target then min (place + k) target else
     max (place - k) target
+
+-- the trains that name a level: an item of a report or its end, a 2 alone, a report that opens (steps 3, 4 and 6)
+abbrev pub namesLevel : Drive → ℕ → Bool
+namesLevel d n =
+    not (n ≡ᵇ softReset) && not (isWaiting (d .waiting))
+    && (if isOpen (d .report) then not (ignored n) else (n ≡ᵇ reportNextBit) || isReport n)
 
 -- a refusal answers level 0 and alters nothing
 abbrev pub KeepsIfRefused : Drive → Step → Type 0

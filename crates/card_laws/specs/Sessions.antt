@@ -1,0 +1,26 @@
+-- Calls of the pulse drive one after the other, on one record's bytes.
+-- Assumes nothing.
+use Prim.Native.Nat.{ℕ, zero, suc}
+use mathlib.Core.List.{List, [], _∷_}
+use Rattle.pulse.specs.declared.calls.Step.{Step}
+use Rattle.records.specs.PulseRecord.{encodeTold}
+use Rattle.tapecard.specs.PulseCalls.{pulseTrain, pulseTick}
+
+-- the record after k tick calls
+unfoldable pub ticksOn : ℕ → List ℕ → List ℕ
+ticksOn zero state = state
+ticksOn (suc k) state = pulseTick (ticksOn k state) .state
+
+-- the record after trains that are sent one by one
+unfoldable pub trainsOn : List ℕ → List ℕ → List ℕ
+trainsOn state [] = state
+trainsOn state (n ∷ ns) = trainsOn (pulseTrain state n .state) ns
+
+-- the answers to them
+unfoldable pub answersOn : List ℕ → List ℕ → List (List ℕ)
+answersOn state [] = []
+answersOn state (n ∷ ns) = pulseTrain state n .answer ∷ answersOn (pulseTrain state n .state) ns
+
+-- the eight bytes of a train's answer
+abbrev pub told : Step → List ℕ
+told x = encodeTold (x .number) (x .level) 0

@@ -1,0 +1,83 @@
+-- A train that names no level, and every other call, keeps the level.
+-- Assumes nothing.
+use Prim.Native.Nat.{ℕ, zero, suc, _-_}
+use mathlib.Core.Bool.{Bool, true, false, cond, _||_}
+use mathlib.Core.Path.{_≡_, refl, ap}
+use borrow.Author.Tests.{eqb-true, not-false}
+use Rattle.numbers.specs.Choice.{_≡ᵇ_}
+use Rattle.pulse_parts.specs.declared.arguments.Waiting.{Waiting}
+use Rattle.pulse_parts.specs.declared.arguments.Waiting.the-variants.{For, Nothing}
+use Rattle.pulse_parts.specs.Arguments.{inRange, isWaiting, nibbleOf}
+use Rattle.pulse_parts.specs.Codes.{ignored, isReport, reportNextBit, softReset}
+use Rattle.pulse_parts.specs.Reports.{isOpen}
+use Rattle.pulse.specs.declared.calls.Step.{Step}
+use Rattle.pulse.specs.declared.calls.Waited.{Waited}
+use Rattle.pulse.specs.declared.drive.Drive.{Drive}
+use Rattle.pulse.specs.Arguments.{argumentFor, argumentOr, argumentRead, argumentTaken, nibbleTaken, skipped, stepArgument, trackSought}
+use Rattle.pulse.specs.Commands.{checked, obeyed, stepCommand}
+use Rattle.pulse.specs.Events.{inserted, removed, runFor, stepsTo}
+use Rattle.pulse.specs.Motions.{arrived, latched, loadStarted, runStarted, ticked}
+use Rattle.pulse.specs.Reports.{stepReport}
+use Rattle.pulse.specs.Train.{stepReset, stepUnsupported, trainStep}
+use Rattle.pulse_laws.proofs.Bools.{either, never, no-l}
+use Rattle.pulse_laws.proofs.Calls.{insert-by, remove-by, tick-by, train-by, wait-by}
+use Rattle.pulse_laws.specs.Demands.{LevelKept}
+use Rattle.pulse_laws.specs.Runs.{namesLevel}
+
+-- ---- a choice between drives of one level has that level
+level-of : (b : Bool) (x y : Drive) → cond b x y .level ≡ cond b (x .level) (y .level)
+level-of true x y = refl
+level-of false x y = refl
+
+alike : (b l : Bool) → cond b l l ≡ l
+alike true l = refl
+alike false l = refl
+
+abbrev Same : Drive → Drive → Type 0
+Same d x = x .level ≡ d .level
+
+-- ---- time
+run-level : (k : ℕ) (d : Drive) → Same d (runFor k d)
+unfolding runFor ticked arrived
+run-level zero d = refl
+run-level (suc k) d = simp (level-of, alike, run-level k d)
+
+-- ---- trains
+argument-level : (w : Waiting) (d : Drive) (n : ℕ) → Same d (argumentFor w d n)
+unfolding argumentRead nibbleOf argumentTaken trackSought nibbleTaken skipped latched runStarted
+argument-level Nothing d n = refl
+argument-level (For code held low) d n =
+    either (λ x. Same d (argumentOr d code held low x)) (inRange code (n - 2)) _ _ (λ e. simp (level-of, alike)) (λ e. refl)
+
+in-report-level : (d : Drive) (n : ℕ) → ignored n ≡ true → Same d (stepReport d n)
+unfolding stepReport
+in-report-level d n i =
+    either (Same d) (n ≡ᵇ reportNextBit) _ _ (λ e. never i (ap ignored (eqb-true n reportNextBit e))) (λ e. rw i)
+
+train-level : (d : Drive) (n : ℕ) → namesLevel d n ≡ false → Same d (trainStep d n)
+unfolding trainStep stepReset stepArgument stepUnsupported stepCommand checked obeyed latched loadStarted runStarted
+train-level d n q =
+    either (Same d) (n ≡ᵇ softReset) _ _ (λ e. simp (level-of, alike))
+    (λ e. either (Same d) (isWaiting (d .waiting)) _ _ (λ w. argument-level (d .waiting) d n)
+    (λ w. either (Same d) (isOpen (d .report)) _ _ (λ o. in-report-level d n (not-false _ (rw (e, w, o) at q)))
+    (λ o.
+    let c : ((n ≡ᵇ reportNextBit) || isReport n) ≡ false = rw (e, w, o) at q in
+    let f = no-l (n ≡ᵇ reportNextBit) (isReport n) c in
+    let p : isReport n ≡ false = rw f at c in
+    simp (f, p, level-of, alike))))
+
+-- ---- the calls
+abbrev Kept : Drive → Step → Type 0
+Kept d s = Same d (s .drive)
+
+pub level-kept : LevelKept
+unfolding runFor inserted removed latched loadStarted
+level-kept =
+    record {
+      train = λ d n q. train-by (Kept d) d (λ p. refl) n (λ p z. refl) (λ p z. train-level d n q);
+      tick = λ d. tick-by (Kept d) d (λ p. refl) (λ p. run-level 1 d);
+      insert = λ d cart place.
+          insert-by (Kept d) d (λ p. refl) cart place (λ p i. refl) (λ p i o. refl) (λ p i o. simp (level-of, alike));
+      remove = λ d. remove-by (Kept d) d (λ p. refl) (λ p i. refl) (λ p i. simp (level-of, alike));
+      wait = λ d limit. wait-by (λ (w : Waited). Same d (w .drive)) d limit (λ p. refl) (λ p. run-level (stepsTo limit d) d);
+    }
