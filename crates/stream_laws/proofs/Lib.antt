@@ -1,4 +1,5 @@
 pub mod Endings
+pub mod Ignoring
 pub mod Keeping
 pub mod Leaving
 pub mod PlateTable

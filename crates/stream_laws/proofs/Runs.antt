@@ -90,12 +90,12 @@ module _ (s : List ℕ) (size kinds blocks end : ℕ) where
 -- ---- one element stored
 
 -- t is s with an element stored at place p, and each byte m with Apart p m stays
-record OneStored (h : Header) (Apart : ℕ → ℕ → Type 0) (p : ℕ) (s t : List ℕ) : Type 0 where
-  header : headerOf t ≡ Good (withRecorded h (p + 1))
-  size : length t ≡ length s
-  kinds : (j : ℕ) → j < p → kindAt t (h .kinds) j ≡ kindAt s (h .kinds) j
-  bytes : (j : ℕ) → j < p → blockAt t (h .size) (h .blocks) j ≡ blockAt s (h .size) (h .blocks) j
-  apart : (m : ℕ) → Apart p m → getD t m 0 ≡ getD s m 0
+pub record OneStored (h : Header) (Apart : ℕ → ℕ → Type 0) (p : ℕ) (s t : List ℕ) : Type 0 where
+  pub header : headerOf t ≡ Good (withRecorded h (p + 1))
+  pub size : length t ≡ length s
+  pub kinds : (j : ℕ) → j < p → kindAt t (h .kinds) j ≡ kindAt s (h .kinds) j
+  pub bytes : (j : ℕ) → j < p → blockAt t (h .size) (h .blocks) j ≡ blockAt s (h .size) (h .blocks) j
+  pub apart : (m : ℕ) → Apart p m → getD t m 0 ≡ getD s m 0
 
 -- a byte that is neither U's nor the element's kind
 abbrev pub ApartMark : Header → ℕ → ℕ → Type 0
@@ -112,7 +112,7 @@ recorded-apart s h i kind m a =
     ∙ getD-set-other s (h .kinds + i) m kind 0 (a .1)
 
 module _ (h : Header) (u : ℕ) (s : List ℕ) (good : headerOf s ≡ Good (withRecorded h u)) (p : ℕ) (within : p < h .capacity) where
-  one-mark : OneStored h (ApartMark h) p s (storeFilemark s (h .kinds) p)
+  pub one-mark : OneStored h (ApartMark h) p s (storeFilemark s (h .kinds) p)
   unfolding storeFilemark
   one-mark =
       record {
@@ -207,7 +207,7 @@ module _ (h : Header) where
       went-on h (ApartMark h) u p s _ X o (marks-went (p + 1) r (o .header) (le-refl (p + 1)))
 
   module _ (src : List ℕ) where
-    one-of : (u : ℕ) (s : List ℕ) → headerOf s ≡ Good (withRecorded h u) → (off p : ℕ) → p < h .capacity → off + h .size ≤ length src
+    pub one-of : (u : ℕ) (s : List ℕ) → headerOf s ≡ Good (withRecorded h u) → (off p : ℕ) → p < h .capacity → off + h .size ≤ length src
         → OneStored h (ApartBlock h) p s (storeBlock s (h .size) (h .kinds) (h .blocks) p (part src off (h .size)))
     one-of u s g off p e l = one-block h u s g p e (part src off (h .size)) (part-length src off (h .size) l)
 

@@ -16,7 +16,7 @@ use Rattle.stream.specs.Packet.{packetLength, packetStep}
 use Rattle.stream_parts.specs.Requests.{requestOf}
 use Rattle.stream_parts.specs.States.{freshState, changedState, keepsRecordRules}
 use Rattle.stream_laws.specs.Plates.{every, plates}
-use Rattle.stream_laws.specs.Words.{numberOf, blocksOf, stateOf, residueOf, Refusal, Due, Begins, Moves, IsBlock, EveryReadGives, Kept}
+use Rattle.stream_laws.specs.Words.{numberOf, blocksOf, stateOf, residueOf, Refusal, Due, Begins, Moves, IsBlock, EveryReadGives, Kept, Alike}
 use Rattle.stream_laws.specs.History.{Later}
 
 -- "1: packet is not 12 bytes", whatever the image, the record and the buffer; nothing changes.
@@ -63,6 +63,12 @@ abbrev pub BeyondKept : Type 0
 BeyondKept =
     (s : List ℕ) (st : State) (packet buf : List ℕ) → numberOf (packetStep s st packet buf) ≡ 0
     → Kept s st packet buf (packetStep s st packet buf)
+
+-- "Kinds at U and above mean nothing.": images that are alike below U are answered alike, and stay alike.
+pub record BeyondIgnored : Type 0 where
+  pub outcome : (s t : List ℕ) (st : State) (packet buf : List ℕ) → Alike s t → packetStep t st packet buf .out ≡ packetStep s st packet buf .out
+  pub given : (s t : List ℕ) (st : State) (packet buf : List ℕ) → Alike s t → packetStep t st packet buf .buf ≡ packetStep s st packet buf .buf
+  pub left : (s t : List ℕ) (st : State) (packet buf : List ℕ) → Alike s t → Alike (packetStep s st packet buf .image) (packetStep t st packet buf .image)
 
 -- "Data: copied, P + 1": each block that a READ moves is a data block of the image, and stands whole in the buffer.
 abbrev pub ReadGives : Type 0

@@ -11,7 +11,7 @@ use Rattle.numbers.specs.Over.{part}
 use Rattle.image.specs.declared.elements.Kind.the-variants.{Data}
 use Rattle.image.specs.declared.header.Header.{Header}
 use Rattle.image.specs.Elements.{kindAt, blockAt, recordedField}
-use Rattle.image.specs.Header.{fieldsOf, keepsHeaderRules, brokenImage}
+use Rattle.image.specs.Header.{fieldsOf, headerOf, keepsHeaderRules, brokenImage}
 use Rattle.opcodes.specs.declared.Command.{Command}
 use Rattle.opcodes.specs.declared.Command.the-variants.{Unknown, TestUnitReady, Rewind, RequestSense, Read, Write, WriteFilemarks, Space, Inquiry, ModeSelect, ModeSense, LoadUnload, Locate, ReadPosition}
 use Rattle.stream_parts.specs.declared.requests.Request.{Request}
@@ -134,6 +134,16 @@ EveryReadGives s st i bytes =
 pub record SameElement (s t : List ℕ) (i : ℕ) : Type 0 where
   pub kind : kindAt t (fieldsOf s .kinds) i ≡ kindAt s (fieldsOf s .kinds) i
   pub bytes : blockAt t (fieldsOf s .size) (fieldsOf s .blocks) i ≡ blockAt s (fieldsOf s .size) (fieldsOf s .blocks) i
+
+-- element i reads the same in the image t as in s: it has the same kind and, where it is data, the same bytes
+pub record ReadsSame (h : Header) (s t : List ℕ) (i : ℕ) : Type 0 where
+  pub kind : kindAt t (h .kinds) i ≡ kindAt s (h .kinds) i
+  pub bytes : kindAt s (h .kinds) i ≡ Data → blockAt t (h .size) (h .blocks) i ≡ blockAt s (h .size) (h .blocks) i
+
+-- the images s and t have one header, and elements that read the same below U
+pub record Alike (s t : List ℕ) : Type 0 where
+  pub header : headerOf t ≡ headerOf s
+  pub elements : (i : ℕ) → i < fieldsOf s .recorded → ReadsSame (fieldsOf s) s t i
 
 -- byte m of an image is outside the n bytes from place a on
 abbrev pub Outside : ℕ → ℕ → ℕ → Type 0
