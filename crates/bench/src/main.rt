@@ -1,7 +1,10 @@
 // Sends the bytes on standard input to a pulse drive as trains, from power-on with vendor and ROM 0, and writes each train with its level.
+ghost use mathlib.Core.Path.{_≡_};
+ghost use Rattle.bench.specs.Bytes.{byteCall};
 use libc::STDIN_FILENO;
 use libc::STDOUT_FILENO;
 use pulse::Drive;
+use pulse::Step;
 
 // A chunk that was read and sent: whether there may be more, and the drive after it.
 struct Chunk {
@@ -18,8 +21,19 @@ fn write_line(train: u8, level: bool) {
     io::write_all(STDOUT_FILENO, b" 0\n");
 }
 
+fn take_byte(drive: Drive, byte: u8) -> Step
+    ensures { λ r. ⌜ r ≡ byteCall drive byte ⌝ }
+{
+    let n = byte as u16;
+    let tick = n == 0;
+    if tick {
+        return drive.tick();
+    }
+    drive.train(n)
+}
+
 fn send(drive: Drive, byte: u8) -> Drive {
-    let step = drive.take_byte(byte);
+    let step = take_byte(drive, byte);
     if byte != 0 {
         write_line(byte, step.level);
     }

@@ -14,9 +14,9 @@ use Rattle.stream_parts.specs.declared.state.Attention.the-variants.{Nothing, M
 use Rattle.pulse_parts.specs.declared.head.Motion.{Motion}
 use Rattle.pulse_parts.specs.declared.head.Motion.the-variants.{Still, Run, Load}
 use Rattle.pulse_parts.specs.Reports.{bit}
-use Rattle.records.specs.Flags.{isSet, weightOf}
-use Rattle.records.specs.PacketRecord.{attentionOf, attentionByte}
-use Rattle.records.specs.PulseRecord.{motionOf, motionByte, unsent}
+use Rattle.numbers.specs.Flags.{isSet, weightOf}
+use Rattle.packet_record.specs.PacketRecord.{attentionOf, attentionByte}
+use Rattle.pulse_record.specs.PulseRecord.{motionOf, motionByte, unsent}
 
 -- ---- numbers
 

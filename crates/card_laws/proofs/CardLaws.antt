@@ -10,9 +10,9 @@ use Rattle.stream_parts.specs.Answers.{Step}
 use Rattle.stream_laws.specs.Words.{Refusal}
 use Rattle.stream_laws.proofs.Refusals.{refused-keeps}
 use Rattle.pulse.specs.declared.drive.Drive.{Drive}
-use Rattle.records.specs.PacketRecord.{decodeState, encodeAnswer}
+use Rattle.packet_record.specs.PacketRecord.{decodeState, encodeAnswer}
 use Rattle.tapecard.specs.PacketCalls.{packetCard, packetFresh, packetChange, packetLeft, packetCall}
-use Rattle.records.specs.PulseRecord.{encodeTold}
+use Rattle.pulse_record.specs.PulseRecord.{encodeTold}
 use Rattle.tapecard.specs.PulseCalls.{pulseLeft, pulsePowerOn, pulseTrain, pulseTick, pulseInsert, pulseRemove, pulseWait}
 use Rattle.card_laws.specs.Promises.{PacketRefusedUntouched, UntouchedIfRefused, TrainRefusedUntouched, TickRefusedUntouched, InsertRefusedUntouched, RemoveRefusedUntouched, WaitRefusedUntouched, StateKeptByCycle, DecodedStateFits, DriveKeptByCycle, DecodedDriveFits, CountsWhole, Settled}
 use Rattle.pulse_laws.proofs.Answers.{settles}

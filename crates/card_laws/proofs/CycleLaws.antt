@@ -28,8 +28,8 @@ use Rattle.pulse.specs.declared.drive.Drive.{Drive}
 use Rattle.pulse.specs.Rules.{isFree, keepsRules}
 use Rattle.pulse_laws.proofs.Bools.{ands}
 use Rattle.pulse_laws.proofs.Rules.{Cart, full, bare, to-rules}
-use Rattle.records.specs.PacketRecord.{decodeState, encodeState}
-use Rattle.records.specs.PulseRecord.{waitingOf, waitedCode, waitedHeld, waitedValue, cartridgeOf, cartridgeByte, cartridgeIn, headIn, reportIn, waitingIn, decodeDrive, encodeDrive}
+use Rattle.packet_record.specs.PacketRecord.{decodeState, encodeState}
+use Rattle.pulse_record.specs.PulseRecord.{waitingOf, waitedCode, waitedHeld, waitedValue, cartridgeOf, cartridgeByte, cartridgeIn, headIn, reportIn, waitingIn, decodeDrive, encodeDrive}
 use Rattle.card_laws.specs.Promises.{Bytes, FitsRecord, HeldAlone, FitsBytes}
 use Rattle.card_laws.proofs.ByteLaws.{two-back, four-back, one-back, three-back, five-back, attention-back, motion-back, bits-back, unsent-most, unsent-closed}
 

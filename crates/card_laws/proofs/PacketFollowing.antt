@@ -19,7 +19,7 @@ use Rattle.stream.specs.Packet.{packetStep}
 use Rattle.stream_laws.specs.Words.{numberOf, blocksOf, bytesOf, stateOf}
 use Rattle.stream_laws.proofs.Leaving.{accepted-leaves}
 use Rattle.stream_laws.proofs.Refusals.{refused-keeps}
-use Rattle.records.specs.PacketRecord.{decodeState, encodeState, encodeAnswer}
+use Rattle.packet_record.specs.PacketRecord.{decodeState, encodeState, encodeAnswer}
 use Rattle.tapecard.specs.PacketCalls.{packetFresh, packetChange, packetLeft, packetCall}
 use Rattle.card_laws.specs.Promises.{Bytes, PacketFollows}
 use Rattle.card_laws.proofs.ByteLaws.{four-back, in-largest, largest}

@@ -22,7 +22,7 @@ use Rattle.pulse_laws.proofs.Answers.{number-exactly, refused-keeps}
 use Rattle.pulse_laws.proofs.Bools.{either}
 use Rattle.pulse_laws.proofs.Calls.{wait-by}
 use Rattle.pulse_laws.proofs.Kept.{rules-kept}
-use Rattle.records.specs.PulseRecord.{decodeDrive, encodeDrive, encodeTold, describedCartridge, describedPlace}
+use Rattle.pulse_record.specs.PulseRecord.{decodeDrive, encodeDrive, encodeTold, describedCartridge, describedPlace}
 use Rattle.tapecard.specs.PulseCalls.{pulseLeft, pulsePowerOn, pulseTrain, pulseTick, pulseInsert, pulseRemove, pulseWait}
 use Rattle.card_laws.specs.Promises.{Bytes, FitsBytes, PulseFollows, StaysBytes}
 use Rattle.card_laws.proofs.BytesKept.{encoded-bytes}

@@ -8,7 +8,7 @@ use Rattle.pulse.specs.Calls.{tickCall}
 use Rattle.pulse_laws.specs.Runs.{afterTicks, afterTrains, answers, recoveryTrains, silentTicks}
 use Rattle.pulse_laws.proofs.Recovery.{recovers-by-rules}
 use Rattle.pulse_laws.proofs.Rules.{to-rules}
-use Rattle.records.specs.PulseRecord.{decodeDrive}
+use Rattle.pulse_record.specs.PulseRecord.{decodeDrive}
 use Rattle.tapecard.specs.PulseCalls.{pulseLeft, pulseTrain}
 use Rattle.card_laws.specs.Promises.{Bytes, CardRecovers}
 use Rattle.card_laws.specs.Sessions.{answersOn, ticksOn, told, trainsOn}

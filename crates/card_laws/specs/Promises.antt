@@ -19,9 +19,9 @@ use Rattle.stream_parts.specs.States.{freshState, changedState}
 use Rattle.stream.specs.Packet.{packetStep}
 use Rattle.stream_laws.specs.Words.{stateOf, blocksOf, bytesOf}
 use Rattle.numbers.specs.Counts.{countAt}
-use Rattle.records.specs.PacketRecord.{decodeState, encodeState}
+use Rattle.packet_record.specs.PacketRecord.{decodeState, encodeState}
 use Rattle.tapecard.specs.PacketCalls.{packetCard, packetFresh, packetChange, packetCall}
-use Rattle.records.specs.PulseRecord.{decodeDrive, encodeDrive, describedCartridge, describedPlace}
+use Rattle.pulse_record.specs.PulseRecord.{decodeDrive, encodeDrive, describedCartridge, describedPlace}
 use Rattle.tapecard.specs.PulseCalls.{PulseCard, pulsePowerOn, pulseTrain, pulseTick, pulseInsert, pulseRemove, pulseWait}
 
 -- ---- "A refused call (number not 0) leaves the record's bytes, the image and every buffer exactly as they were; only the answer is written."

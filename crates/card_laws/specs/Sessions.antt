@@ -3,7 +3,7 @@
 use Prim.Native.Nat.{ℕ, zero, suc}
 use mathlib.Core.List.{List, [], _∷_}
 use Rattle.pulse.specs.declared.calls.Step.{Step}
-use Rattle.records.specs.PulseRecord.{encodeTold}
+use Rattle.pulse_record.specs.PulseRecord.{encodeTold}
 use Rattle.tapecard.specs.PulseCalls.{pulseTrain, pulseTick}
 
 -- the record after k tick calls

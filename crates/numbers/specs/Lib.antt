@@ -1,5 +1,6 @@
 pub mod Choice
 pub mod Counts
+pub mod Flags
 pub mod Member
 pub mod Over
 pub mod RuleList

@@ -74,9 +74,3 @@ unfoldable pub waitCall : Drive → ℕ → Waited
 waitCall d limit =
     if not (keepsRules d) then refusedWait d brokenRecord else
     acceptedWait (stepsTo limit d) (runFor (stepsTo limit d) d)
-
--- 01, the bench program: "takes bytes on standard input as trains .. (0 is a tick ..)"
-unfoldable pub byteCall : Drive → ℕ → Step
-byteCall d byte =
-    if byte ≡ᵇ 0 then tickCall d else
-    trainCall d byte

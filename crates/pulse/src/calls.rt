@@ -1,7 +1,7 @@
 // The public calls, with their refusals. 01: "Pulse order: 8, then 7 or 5, then 6."
 ghost use mathlib.Core.Path.{_≡_};
 ghost use Rattle.pulse.specs.Events.{runFor, stepsTo};
-ghost use Rattle.pulse.specs.Calls.{refused, accepted, acceptedWait, trainCall, tickCall, insertCall, removeCall, waitCall, byteCall};
+ghost use Rattle.pulse.specs.Calls.{refused, accepted, acceptedWait, trainCall, tickCall, insertCall, removeCall, waitCall};
 use crate::drive::Drive;
 use crate::rules;
 use pulse_parts::Cartridge;
@@ -156,17 +156,5 @@ impl Drive {
             };
         }
         self.wait_step(limit)
-    }
-
-    // A byte of the bench program: a train, or a tick where it is 0.
-    pub fn take_byte(self, byte: u8) -> Step
-        ensures { λ r. ⌜ r ≡ byteCall self byte ⌝ }
-    {
-        let n = byte as u16;
-        let tick = n == 0;
-        if tick {
-            return self.tick();
-        }
-        self.train(n)
     }
 }

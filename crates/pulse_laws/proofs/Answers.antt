@@ -10,7 +10,7 @@ use Rattle.pulse_parts.specs.declared.cartridge.Cartridge.{Cartridge}
 use Rattle.pulse.specs.declared.calls.Step.{Step}
 use Rattle.pulse.specs.declared.calls.Waited.{Waited}
 use Rattle.pulse.specs.declared.drive.Drive.{Drive}
-use Rattle.pulse.specs.Calls.{alreadySo, brokenRecord, byteCall, emptyTrain, insertCall, notRefused, outsideRanges, removeCall, tickCall, trainCall, waitCall}
+use Rattle.pulse.specs.Calls.{alreadySo, brokenRecord, emptyTrain, insertCall, notRefused, outsideRanges, removeCall, tickCall, trainCall, waitCall}
 use Rattle.pulse.specs.Drives.{powerOn}
 use Rattle.pulse.specs.Rules.{keepsRules}
 use Rattle.pulse_laws.proofs.Calls.{insert-by, remove-by, tick-by, train-by, wait-by}
@@ -130,5 +130,4 @@ settled =
       insert = λ d cart place. settles (insertCall d cart place);
       remove = λ d. settles (removeCall d);
       wait = λ d limit. settles (waitCall d limit);
-      byte = λ d byte. settles (byteCall d byte);
     }

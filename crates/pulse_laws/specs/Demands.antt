@@ -13,7 +13,7 @@ use Rattle.pulse_parts.specs.Errors.{noError}
 use Rattle.pulse_parts.specs.Faults.{errorHeld}
 use Rattle.pulse.specs.declared.calls.Step.{Step}
 use Rattle.pulse.specs.declared.drive.Drive.{Drive}
-use Rattle.pulse.specs.Calls.{alreadySo, byteCall, emptyTrain, insertCall, notRefused, removeCall, tickCall, trainCall, waitCall}
+use Rattle.pulse.specs.Calls.{alreadySo, emptyTrain, insertCall, notRefused, removeCall, tickCall, trainCall, waitCall}
 use Rattle.pulse.specs.Drives.{isReady, powerOn}
 use Rattle.pulse.specs.Rules.{keepsRules}
 use Rattle.pulse_laws.specs.Plates.{every, plates}
@@ -107,7 +107,6 @@ pub record Settled : Type 0 where
   pub insert : (d : Drive) (cart : Cartridge) (place : ℕ) → Settles (insertCall d cart place)
   pub remove : (d : Drive) → Settles (removeCall d)
   pub wait : (d : Drive) (limit : ℕ) → Settles (waitCall d limit)
-  pub byte : (d : Drive) (byte : ℕ) → Settles (byteCall d byte)
 
 -- 01: "A small set is proved together as one table (*)"
 abbrev pub PlatesPrint : Type 0

@@ -16,9 +16,9 @@ use Rattle.pulse.specs.declared.drive.Drive.{Drive}
 use Rattle.pulse.specs.Drives.{powerOn}
 use Rattle.pulse.specs.Calls.{trainCall, tickCall, insertCall, removeCall, waitCall}
 use Rattle.pulse_parts.specs.declared.cartridge.Cartridge.{Cartridge}
-use Rattle.records.specs.PacketRecord.{decodeState, encodeState, encodeAnswer}
+use Rattle.packet_record.specs.PacketRecord.{decodeState, encodeState, encodeAnswer}
 use Rattle.tapecard.specs.PacketCalls.{packetCard, packetFresh, packetChange, packetLeft, packetCall}
-use Rattle.records.specs.PulseRecord.{decodeDrive, encodeDrive, encodeTold, describedCartridge, describedPlace}
+use Rattle.pulse_record.specs.PulseRecord.{decodeDrive, encodeDrive, encodeTold, describedCartridge, describedPlace}
 use Rattle.tapecard.specs.PulseCalls.{PulseCard, pulseCard, pulseLeft, pulsePowerOn, pulseTrain, pulseTick, pulseInsert, pulseRemove, pulseWait}
 
 -- ---- the packet drive

@@ -6,7 +6,7 @@ use Rattle.numbers.specs.Choice.{if_then_else_, _≡ᵇ_}
 use Rattle.stream_parts.specs.Answers.{Step}
 use Rattle.stream_parts.specs.States.{freshState, changedState}
 use Rattle.stream.specs.Packet.{packetStep}
-use Rattle.records.specs.PacketRecord.{decodeState, encodeState, encodeAnswer}
+use Rattle.packet_record.specs.PacketRecord.{decodeState, encodeState, encodeAnswer}
 
 pub record PacketCard : Type 0 where
   pub state : List ℕ

@@ -9,7 +9,7 @@ use Rattle.pulse.specs.declared.calls.Waited.{Waited}
 use Rattle.pulse.specs.declared.drive.Drive.{Drive}
 use Rattle.pulse.specs.Drives.{powerOn}
 use Rattle.pulse.specs.Calls.{trainCall, tickCall, insertCall, removeCall, waitCall}
-use Rattle.records.specs.PulseRecord.{decodeDrive, encodeDrive, encodeTold, describedCartridge, describedPlace}
+use Rattle.pulse_record.specs.PulseRecord.{decodeDrive, encodeDrive, encodeTold, describedCartridge, describedPlace}
 
 pub record PulseCard : Type 0 where
   pub state : List ℕ

@@ -1,9 +1,9 @@
 // The calls of the packet drive.
 ghost use mathlib.Core.Path.{_≡_};
 ghost use Rattle.tapecard.specs.PacketCalls.{packetCard, packetFresh, packetChange, packetCall};
-use records::packet_record::decode_state;
-use records::packet_record::encode_answer;
-use records::packet_record::encode_state;
+use packet_record::decode_state;
+use packet_record::encode_answer;
+use packet_record::encode_state;
 
 #[no_mangle]
 pub extern "C" fn tapecard_fresh(state: &mut [u8; 16])

@@ -2,11 +2,11 @@
 ghost use mathlib.Core.Path.{_≡_};
 ghost use Rattle.tapecard.specs.PulseCalls.{pulseCard, pulseLeft, pulsePowerOn, pulseTrain, pulseTick, pulseInsert, pulseRemove, pulseWait};
 use pulse::Drive;
-use records::pulse_record::decode_drive;
-use records::pulse_record::described_cartridge;
-use records::pulse_record::described_place;
-use records::pulse_record::encode_drive;
-use records::pulse_record::encode_told;
+use pulse_record::decode_drive;
+use pulse_record::described_cartridge;
+use pulse_record::described_place;
+use pulse_record::encode_drive;
+use pulse_record::encode_told;
 
 const NO_TICKS: u32 = 0;
 
