@@ -83,7 +83,8 @@ code-low code l =
     (λ c. absurd (let z : 0 < 0 = rw (a, b, c) at l in omega arith))))
   where
     one-of : (x y : ℕ) → x < 256 → y < 256 → ((code ≡ᵇ x) || (code ≡ᵇ y)) ≡ true → code < 256
-    one-of x y p q e = or-by _ _ e (λ a. omega (arith, eqb-true code x a)) (λ a. omega (arith, eqb-true code y a))
+    one-of x y p q e =
+        or-by (code ≡ᵇ x) (code ≡ᵇ y) e (λ a. omega (arith, eqb-true code x a)) (λ a. omega (arith, eqb-true code y a))
 
 waited-low : (w : Waiting) (free referenced : Bool) → waitingFits w free referenced ≡ true → waitedCode w < 256
 waited-low Nothing free referenced e = omega arith

@@ -21,6 +21,7 @@ use Rattle.stream_parts.specs.Senses.{unitAttention, invalidOpcode, inva
 
 -- ---- the conditions of a command
 
+-- a first byte that is none of the thirteen
 abbrev pub noCommand : Conditions
 noCommand = record { known = false; exempt = false; listed = false; mounted = false; stores = false }
 
@@ -28,18 +29,19 @@ noCommand = record { known = false; exempt = false; listed = false; mounted = fa
 abbrev pub always : Conditions
 always = record { known = true; exempt = true; listed = false; mounted = false; stores = false }
 
--- 1Ah and 1Bh: "Not loaded 2/3A/00, for all but 03h, 12h, 15h, 1Ah, 1Bh"
+-- 1Ah and 1Bh, without a cartridge too: "Not loaded 2/3A/00, for all but 03h, 12h, 15h, 1Ah, 1Bh"
 abbrev pub settings : Conditions
 settings = record { known = true; exempt = false; listed = false; mounted = false; stores = false }
 
--- 15h, which is never not loaded either
+-- 15h, likewise, and its list length is a field
 abbrev pub settingsList : Conditions
 settingsList = record { known = true; exempt = false; listed = true; mounted = false; stores = false }
 
+-- 00h, 01h, 08h, 11h, 2Bh and 34h
 abbrev pub onTape : Conditions
 onTape = record { known = true; exempt = false; listed = false; mounted = true; stores = false }
 
--- "Write protected 7/27/00, for 0Ah and 10h"
+-- 0Ah and 10h: "Write protected 7/27/00, for 0Ah and 10h"
 abbrev pub storing : Conditions
 storing = record { known = true; exempt = false; listed = false; mounted = true; stores = true }
 
