@@ -20,7 +20,7 @@ use Rattle.stream_parts.specs.declared.state.State.{State}
 use Rattle.stream_parts.specs.declared.state.Verdict.{Verdict}
 use Rattle.stream_parts.specs.declared.state.Verdict.the-variants.{Refuses, Ends, Works}
 use Rattle.stream_parts.specs.Answers.{done, refused, endsBefore, shortBuffer}
-use Rattle.stream_parts.specs.Checks.{isPending, conditionsOf, badFieldOf, wrongLength, neededBy, verdictOf}
+use Rattle.stream_parts.specs.Checks.{isPending, conditionsOf, badFieldOf, wrongLength, neededBy, tapeVerdictOf, verdictOf}
 use Rattle.stream.specs.Packet.{carriedOut, decided, judged, packetStep}
 use Rattle.stream_parts.specs.Replies.{isProtected}
 use Rattle.stream_parts.specs.Requests.{requestOf}
@@ -61,7 +61,7 @@ module _ (h : Header) (st : State) (q : Request) (room : ℕ) where
   from-opcode = cond (not (conditionsOf (q .command) .known)) (Ends invalidOpcode) from-fields
 
   pub works-room : (v : Verdict) → v ≡ verdictOf h st q room → v ≡ Works → neededBy (q .command) h q ≤ room
-  unfolding verdictOf
+  unfolding verdictOf tapeVerdictOf
   works-room v p e =
       let e0 = past (isPending (st .attention) && not (conditionsOf (q .command) .exempt)) (unitAttention (st .attention)) from-opcode (sym p ∙ e) in
       let e1 = past (not (conditionsOf (q .command) .known)) invalidOpcode from-fields e0 in

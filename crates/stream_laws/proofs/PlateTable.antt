@@ -10,7 +10,7 @@ use Rattle.transfer.specs.Reading.{readFrom}
 use Rattle.transfer.specs.Spacing.{blocksOn, blocksBack, marksOn, marksBack}
 use Rattle.transfer.specs.Writing.{writeFrom, markFrom}
 use Rattle.stream_parts.specs.Answers.{ends}
-use Rattle.stream_parts.specs.Checks.{badFieldOf, neededBy, verdictOf}
+use Rattle.stream_parts.specs.Checks.{badFieldOf, neededBy, tapeVerdictOf, verdictOf}
 use Rattle.stream.specs.Packet.{packetStep, judged, decided, carriedOut}
 use Rattle.stream_parts.specs.Requests.{requestOf, isBack, magnitude}
 use Rattle.stream_parts.specs.States.{keepsRecordRules}
@@ -18,5 +18,5 @@ use Rattle.stream.specs.Work.{endingOf, readEnds, readWork, writeEnding, writeE
 use Rattle.stream_laws.specs.Demands.{PlatesPrint}
 
 pub plates-print : PlatesPrint
-unfolding packetStep judged decided carriedOut verdictOf badFieldOf neededBy requestOf isBack magnitude keepsRecordRules commandOf headerOf keepsHeaderRules fieldsOf allHold isIn kindOf kindAt blockAt recordAs storeBlock storeFilemark readFrom blocksOn blocksBack marksOn marksBack writeFrom markFrom ends endingOf readEnds readWork writeEnding writeEnds writeWork markWork spaceRun spaceWork firstOf replyEnds goodList selectWork loadWork locateWork workOf
+unfolding packetStep judged decided carriedOut verdictOf tapeVerdictOf badFieldOf neededBy requestOf isBack magnitude keepsRecordRules commandOf headerOf keepsHeaderRules fieldsOf allHold isIn kindOf kindAt blockAt recordAs storeBlock storeFilemark readFrom blocksOn blocksBack marksOn marksBack writeFrom markFrom ends endingOf readEnds readWork writeEnding writeEnds writeWork markWork spaceRun spaceWork firstOf replyEnds goodList selectWork loadWork locateWork workOf
 plates-print = refl

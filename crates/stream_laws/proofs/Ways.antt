@@ -20,7 +20,7 @@ use Rattle.stream_parts.specs.declared.state.State.{State}
 use Rattle.stream_parts.specs.declared.state.Verdict.{Verdict}
 use Rattle.stream_parts.specs.declared.state.Verdict.the-variants.{Refuses, Ends, Works}
 use Rattle.stream_parts.specs.Answers.{Step, done, refused, endsBefore, notTwelveBytes, brokenRecord, shortBuffer}
-use Rattle.stream_parts.specs.Checks.{conditionsOf, isPending, badFieldOf, wrongLength, neededBy, verdictOf}
+use Rattle.stream_parts.specs.Checks.{conditionsOf, isPending, badFieldOf, wrongLength, neededBy, tapeVerdictOf, verdictOf}
 use Rattle.stream.specs.Packet.{packetLength, packetStep, judged, decided, carriedOut}
 use Rattle.stream_parts.specs.Replies.{isProtected}
 use Rattle.stream_parts.specs.Requests.{requestOf}
@@ -57,7 +57,7 @@ module _ (h : Header) (st : State) (q : Request) (room : ℕ) where
   found-by false false false false false false false p t = found-clear p (ltb-false room _ t)
 
   pub found : Found (verdictOf h st q room)
-  unfolding verdictOf endsEarly
+  unfolding verdictOf tapeVerdictOf endsEarly
   found =
       found-by (isPending (st .attention) && not (conditionsOf (q .command) .exempt)) (not (conditionsOf (q .command) .known)) (badFieldOf (q .command) q)
       (conditionsOf (q .command) .listed && wrongLength (q .length)) (conditionsOf (q .command) .mounted && not (st .loaded)) (conditionsOf (q .command) .stores && isProtected h)

@@ -3,7 +3,7 @@
 use Prim.Native.Nat.{ℕ, _+_, _≤_}
 use native.Mathlib.Omega.{arith}
 use mathlib.Core.List.{List}
-use mathlib.Core.Path.{_≡_, _∙_}
+use mathlib.Core.Path.{_≡_, refl, _∙_}
 use lib.ListN.{length}
 use Rattle.image.specs.Header.{fieldsOf}
 use Rattle.opcodes.specs.declared.Command.{Command}
@@ -11,17 +11,16 @@ use Rattle.transfer.proofs.ReadLaws.{read-ended}
 use Rattle.transfer.proofs.WriteLaws.{write-ended, mark-ended}
 use Rattle.stream_parts.specs.declared.requests.Request.{Request}
 use Rattle.stream_parts.specs.declared.state.State.{State}
-use Rattle.stream_parts.specs.declared.state.Verdict.{Verdict}
-use Rattle.stream_parts.specs.declared.state.Verdict.the-variants.{Works}
 use Rattle.stream_parts.specs.Answers.{Step}
 use Rattle.stream_parts.specs.Checks.{neededBy}
 use Rattle.stream.specs.Packet.{packetStep, carriedOut}
+use Rattle.stream.proofs.PacketLaws.{works-room}
 use Rattle.stream_parts.specs.Requests.{requestOf}
 use Rattle.stream.specs.Work.{workOf, readWork, readEnds, writeWork, writeEnds, markWork}
 use Rattle.stream_laws.specs.Words.{numberOf, blocksOf, stateOf, residueOf, Begins, Moves, by-read, by-write, by-filemarks}
 use Rattle.stream_laws.specs.Demands.{MovedPlusResidue}
 use Rattle.stream_laws.proofs.Endings.{ends-is, read-residue, write-residue}
-use Rattle.stream_laws.proofs.Ways.{Found, found-early, found-short, found-clear, found, Way, cut, broken, unruly, short, ends-early, works, Passes, way, step-passed}
+use Rattle.stream_laws.proofs.Ways.{Way, cut, broken, unruly, short, ends-early, works, Passes, way, step-passed}
 
 module _ (s : List ℕ) (st : State) (packet buf : List ℕ) where
   passed-by : {x : Step} → Way s st packet buf x → numberOf x ≡ 0 → Passes s st packet buf
@@ -32,18 +31,12 @@ module _ (s : List ℕ) (st : State) (packet buf : List ℕ) where
   passed-by (ends-early p x f k) e = p
   passed-by (works p f l) e = p
 
-  room-by : {v : Verdict} → Found (fieldsOf s) st (requestOf packet) (length buf) v → v ≡ Works
-      → neededBy (requestOf packet .command) (fieldsOf s) (requestOf packet) ≤ length buf
-  room-by (found-early x e k) w = let z : _≡_ {A = ℕ} 0 1 = cc in absurd (omega arith)
-  room-by (found-short e l) w = let z : _≡_ {A = ℕ} 0 1 = cc in absurd (omega arith)
-  room-by (found-clear e l) w = l
-
   module _ (b : Begins s st packet buf) where
     pub begins-passes : Passes s st packet buf
     begins-passes = passed-by (way s st packet buf) (b .not-refused)
 
     pub begins-room : neededBy (requestOf packet .command) (fieldsOf s) (requestOf packet) ≤ length buf
-    begins-room = room-by (found (fieldsOf s) st (requestOf packet) (length buf)) (b .works)
+    begins-room = works-room (fieldsOf s) st (requestOf packet) (length buf) _ refl (b .works)
 
     pub begins-work : packetStep s st packet buf ≡ workOf (requestOf packet .command) s (fieldsOf s) st (requestOf packet) buf
     unfolding carriedOut

@@ -106,6 +106,14 @@ neededBy LoadUnload h q = 0
 neededBy Locate h q = 0
 neededBy ReadPosition h q = positionLength
 
+-- what is judged of the tape: "not ready, protection, 4"
+unfoldable pub tapeVerdictOf : Header → State → Request → ℕ → Verdict
+tapeVerdictOf h st q room =
+    if conditionsOf (q .command) .mounted && not (st .loaded) then Ends notLoaded else
+    if conditionsOf (q .command) .stores && isProtected h then Ends writeProtected else
+    if room <ᵇ neededBy (q .command) h q then Refuses shortBuffer else
+    Works
+
 -- "Packet order: 1, 2, 3, attention, opcode, fields, not ready, protection, 4, list contents, the work."
 unfoldable pub verdictOf : Header → State → Request → ℕ → Verdict
 verdictOf h st q room =
@@ -113,7 +121,4 @@ verdictOf h st q room =
     if not (conditionsOf (q .command) .known) then Ends invalidOpcode else
     if badFieldOf (q .command) q then Ends invalidField else
     if conditionsOf (q .command) .listed && wrongLength (q .length) then Ends wrongListLength else
-    if conditionsOf (q .command) .mounted && not (st .loaded) then Ends notLoaded else
-    if conditionsOf (q .command) .stores && isProtected h then Ends writeProtected else
-    if room <ᵇ neededBy (q .command) h q then Refuses shortBuffer else
-    Works
+    tapeVerdictOf h st q room

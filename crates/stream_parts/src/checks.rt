@@ -2,7 +2,7 @@
 ghost use mathlib.Core.Path.{_≡_};
 ghost use Prim.Native.Nat.{_*_, _^_, _<_, _≤_, min};
 ghost use Rattle.numbers.specs.Member.{isIn};
-ghost use Rattle.stream_parts.specs.Checks.{noCommand, always, settings, settingsList, onTape, storing, conditionsOf, isPending, badFieldOf, wrongLength, neededBy, verdictOf};
+ghost use Rattle.stream_parts.specs.Checks.{noCommand, always, settings, settingsList, onTape, storing, conditionsOf, isPending, badFieldOf, wrongLength, neededBy, tapeVerdictOf, verdictOf};
 ghost use Rattle.stream_parts.specs.States.{speeds, keepsRecordRules};
 use crate::replies::mode_length;
 use crate::requests::DEVICE_PAGE;
@@ -227,6 +227,28 @@ fn needed(h: Header, q: Request) -> usize
     }
 }
 
+// What is judged of the tape, once the packet itself is good.
+fn tape_verdict(h: Header, state: State, q: Request, room: usize) -> Verdict
+    requires { ⌜ (q .count < 2 ^ 24) × (h .size ≤ 1024) ⌝ }
+    ensures { λ r. ⌜ r ≡ tapeVerdictOf h state q room ⌝ }
+{
+    let command = q.command;
+    let conditions = conditions_of(command);
+    let absent = conditions.mounted & !state.loaded;
+    if absent {
+        return Verdict::Ends(not_loaded());
+    }
+    let protected = conditions.stores & (h.protect == 1);
+    if protected {
+        return Verdict::Ends(write_protected());
+    }
+    let short = room < needed(h, q);
+    if short {
+        return Verdict::Refuses(SHORT_BUFFER);
+    }
+    Verdict::Works
+}
+
 pub fn verdict(h: Header, state: State, q: Request, room: usize) -> Verdict
     requires { ⌜ (q .count < 2 ^ 24) × (h .size ≤ 1024) ⌝ }
     ensures { λ r. ⌜ r ≡ verdictOf h state q room ⌝ }
@@ -250,19 +272,7 @@ pub fn verdict(h: Header, state: State, q: Request, room: usize) -> Verdict
     if length {
         return Verdict::Ends(wrong_list_length());
     }
-    let absent = conditions.mounted & !state.loaded;
-    if absent {
-        return Verdict::Ends(not_loaded());
-    }
-    let protected = conditions.stores & (h.protect == 1);
-    if protected {
-        return Verdict::Ends(write_protected());
-    }
-    let short = room < needed(h, q);
-    if short {
-        return Verdict::Refuses(SHORT_BUFFER);
-    }
-    Verdict::Works
+    tape_verdict(h, state, q, room)
 }
 
 const SPEEDS: [u16; 5] = [0, 62, 125, 250, 500];

@@ -45,30 +45,12 @@ returns-4 : tie.Need-returns-4
 unfolding verdictOf
 returns-4 c = simp (c .wrong-list-length .ensures, c .before .if4 .taken, ← c .before .before .before .wrong-length .ensures, c .before .before .before .before .if3 .left, ← c .before .before .before .before .before .bad-field .ensures, c .before .before .before .before .before .before .if2 .left, c .before .before .before .before .before .before .before .before .if1 .left, ← c .before .before .before .before .before .before .before .before .before .before .is-pending .ensures, ← c .before .before .before .before .before .before .before .before .before .before .before .conditions-of .ensures)
 
-not-loaded-requires : tie.Need-not-loaded-requires
-not-loaded-requires c κs = search needs
+tape-verdict-requires : tie.Need-tape-verdict-requires
+tape-verdict-requires c κs = search needs
 
 returns-5 : tie.Need-returns-5
 unfolding verdictOf
-returns-5 c = simp (c .not-loaded .ensures, c .before .if5 .taken, c .before .before .before .before .if4 .left, ← c .before .before .before .before .before .before .wrong-length .ensures, c .before .before .before .before .before .before .before .if3 .left, ← c .before .before .before .before .before .before .before .before .bad-field .ensures, c .before .before .before .before .before .before .before .before .before .if2 .left, c .before .before .before .before .before .before .before .before .before .before .before .if1 .left, ← c .before .before .before .before .before .before .before .before .before .before .before .before .before .is-pending .ensures, ← c .before .before .before .before .before .before .before .before .before .before .before .before .before .before .conditions-of .ensures)
-
-write-protected-requires : tie.Need-write-protected-requires
-write-protected-requires c κs = search needs
-
-returns-6 : tie.Need-returns-6
-unfolding verdictOf
-returns-6 c = simp (c .write-protected .ensures, c .before .if6 .taken, c .before .before .before .before .if5 .left, c .before .before .before .before .before .before .before .if4 .left, ← c .before .before .before .before .before .before .before .before .before .wrong-length .ensures, c .before .before .before .before .before .before .before .before .before .before .if3 .left, ← c .before .before .before .before .before .before .before .before .before .before .before .bad-field .ensures, c .before .before .before .before .before .before .before .before .before .before .before .before .if2 .left, c .before .before .before .before .before .before .before .before .before .before .before .before .before .before .if1 .left, ← c .before .before .before .before .before .before .before .before .before .before .before .before .before .before .before .before .is-pending .ensures, ← c .before .before .before .before .before .before .before .before .before .before .before .before .before .before .before .before .before .conditions-of .ensures)
-
-needed-requires : tie.Need-needed-requires
-needed-requires c κs = search needs
-
-returns-7 : tie.Need-returns-7
-unfolding verdictOf
-returns-7 c = simp (c .if7 .taken, ← c .before .needed .ensures, c .before .before .if6 .left, c .before .before .before .before .before .if5 .left, c .before .before .before .before .before .before .before .before .if4 .left, ← c .before .before .before .before .before .before .before .before .before .before .wrong-length .ensures, c .before .before .before .before .before .before .before .before .before .before .before .if3 .left, ← c .before .before .before .before .before .before .before .before .before .before .before .before .bad-field .ensures, c .before .before .before .before .before .before .before .before .before .before .before .before .before .if2 .left, c .before .before .before .before .before .before .before .before .before .before .before .before .before .before .before .if1 .left, ← c .before .before .before .before .before .before .before .before .before .before .before .before .before .before .before .before .before .is-pending .ensures, ← c .before .before .before .before .before .before .before .before .before .before .before .before .before .before .before .before .before .before .conditions-of .ensures)
-
-returns-8 : tie.Need-returns-8
-unfolding verdictOf
-returns-8 c = simp (c .if7 .left, ← c .before .needed .ensures, c .before .before .if6 .left, c .before .before .before .before .before .if5 .left, c .before .before .before .before .before .before .before .before .if4 .left, ← c .before .before .before .before .before .before .before .before .before .before .wrong-length .ensures, c .before .before .before .before .before .before .before .before .before .before .before .if3 .left, ← c .before .before .before .before .before .before .before .before .before .before .before .before .bad-field .ensures, c .before .before .before .before .before .before .before .before .before .before .before .before .before .if2 .left, c .before .before .before .before .before .before .before .before .before .before .before .before .before .before .before .if1 .left, ← c .before .before .before .before .before .before .before .before .before .before .before .before .before .before .before .before .before .is-pending .ensures, ← c .before .before .before .before .before .before .before .before .before .before .before .before .before .before .before .before .before .before .conditions-of .ensures)
+returns-5 c = simp (c .tape-verdict .ensures, c .before .if4 .left, ← c .before .before .before .wrong-length .ensures, c .before .before .before .before .if3 .left, ← c .before .before .before .before .before .bad-field .ensures, c .before .before .before .before .before .before .if2 .left, c .before .before .before .before .before .before .before .before .if1 .left, ← c .before .before .before .before .before .before .before .before .before .before .is-pending .ensures, ← c .before .before .before .before .before .before .before .before .before .before .before .conditions-of .ensures)
 
 pub verdict-spec : {M : Type 1} → statement M
 verdict-spec =
@@ -86,10 +68,5 @@ verdict-spec =
     wrong-length-requires
     wrong-list-length-requires
     returns-4
-    not-loaded-requires
-    returns-5
-    write-protected-requires
-    returns-6
-    needed-requires
-    returns-7
-    returns-8)
+    tape-verdict-requires
+    returns-5)
