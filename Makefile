@@ -21,6 +21,7 @@ fuzz: target/staticlib/libtapecard.a
 	$(HOST_ENV) && cd host && TAPECARD_CALLS=$(N) cargo test --release --offline -p compare --test random -- --nocapture
 
 target/staticlib/libtapecard.a: crates.txt $(shell find crates -path '*/must-fail' -prune -o -type f -print)
+	rt check tapecard # two crates at a time; staticlib alone proves them one by one
 	rt staticlib tapecard
 
 clean:
