@@ -40,7 +40,7 @@ in-largest x (y ∷ ys) e = or-by (y ≡ᵇ x) (isIn x ys) e (λ p. omega (arith
 
 -- ---- flags
 
-pub weight-is : (b : Bool) (weight : ℕ) → weightOf b weight ≡ bit b * weight
+weight-is : (b : Bool) (weight : ℕ) → weightOf b weight ≡ bit b * weight
 weight-is true weight = omega arith
 weight-is false weight = omega arith
 

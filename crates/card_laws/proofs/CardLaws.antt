@@ -14,11 +14,10 @@ use Rattle.packet_record.specs.PacketRecord.{decodeState, encodeAnswer}
 use Rattle.tapecard.specs.PacketCalls.{packetCard, packetFresh, packetChange, packetLeft, packetCall}
 use Rattle.pulse_record.specs.PulseRecord.{encodeTold}
 use Rattle.tapecard.specs.PulseCalls.{pulseLeft, pulsePowerOn, pulseTrain, pulseTick, pulseInsert, pulseRemove, pulseWait}
-use Rattle.card_laws.specs.Promises.{PacketRefusedUntouched, UntouchedIfRefused, TrainRefusedUntouched, TickRefusedUntouched, InsertRefusedUntouched, RemoveRefusedUntouched, WaitRefusedUntouched, StateKeptByCycle, DecodedStateFits, DriveKeptByCycle, DecodedDriveFits, CountsWhole, Settled}
+use Rattle.card_laws.specs.Promises.{PacketRefusedUntouched, UntouchedIfRefused, TrainRefusedUntouched, TickRefusedUntouched, InsertRefusedUntouched, RemoveRefusedUntouched, WaitRefusedUntouched, CountsWhole, Settled}
 use Rattle.pulse_laws.proofs.Answers.{settles}
 use Rattle.card_laws.proofs.PacketFollowing.{blocks-whole, bytes-whole}
 use Rattle.card_laws.proofs.PulseFollowing.{ticks-whole}
-use Rattle.card_laws.proofs.CycleLaws.{state-back, state-fits, drive-back, drive-fits}
 
 -- ---- refused: untouched
 
@@ -55,20 +54,6 @@ remove-refused-untouched state = pulse-untouched state _ _ _ _
 pub wait-refused-untouched : WaitRefusedUntouched
 unfolding pulseWait
 wait-refused-untouched state limit = pulse-untouched state _ _ _ _
-
--- ---- kept by a power cycle
-
-pub state-kept-by-cycle : StateKeptByCycle
-state-kept-by-cycle = state-back
-
-pub drive-kept-by-cycle : DriveKeptByCycle
-drive-kept-by-cycle = drive-back
-
-pub decoded-state-fits : DecodedStateFits
-decoded-state-fits = state-fits
-
-pub decoded-drive-fits : DecodedDriveFits
-decoded-drive-fits = drive-fits
 
 -- ---- counts
 

@@ -7,7 +7,6 @@ use native.Mathlib.Nat.{lt-of-lt-of-le, zero-lt-suc, pow-le-pow-right, one-le-po
 use native.Mathlib.Omega.{arith}
 use borrow.Author.Tests.{ne-eqb, leb-true, ltb-true, eqb-true}
 use lib.ListN.{getD}
-use mathlib.Core.List.{List}
 use Rattle.numbers.proofs.CountLaws.{count-bound}
 use Rattle.numbers.specs.Counts.{countAt}
 use Rattle.numbers.specs.Choice.{if_then_else_, _≡ᵇ_, _<ᵇ_}
@@ -25,12 +24,12 @@ use Rattle.pulse_parts.specs.declared.reports.Report.{Report}
 use Rattle.pulse_parts.specs.Arguments.{needed, waitingFits}
 use Rattle.pulse_parts.specs.Codes.{seekTrack, selectRate, skipReverse, skipForward, skipExtendedReverse, skipExtendedForward}
 use Rattle.pulse.specs.declared.drive.Drive.{Drive}
-use Rattle.pulse.specs.Rules.{isFree, keepsRules}
+use Rattle.pulse.specs.Rules.{isFree}
 use Rattle.pulse_laws.proofs.Bools.{ands}
 use Rattle.pulse_laws.proofs.Rules.{Cart, full, bare, to-rules}
 use Rattle.packet_record.specs.PacketRecord.{decodeState, encodeState}
 use Rattle.pulse_record.specs.PulseRecord.{waitingOf, waitedCode, waitedHeld, waitedValue, cartridgeOf, cartridgeByte, cartridgeIn, headIn, reportIn, waitingIn, decodeDrive, encodeDrive}
-use Rattle.card_laws.specs.Promises.{Bytes, FitsRecord, HeldAlone, FitsBytes}
+use Rattle.card_laws.specs.Promises.{HeldAlone, StateKeptByCycle, DecodedStateFits, DriveKeptByCycle, DecodedDriveFits}
 use Rattle.card_laws.proofs.ByteLaws.{two-back, four-back, one-back, three-back, five-back, attention-back, motion-back, bits-back, unsent-most, unsent-closed}
 
 -- ---- the packet drive
@@ -43,9 +42,9 @@ same-sense : {k c q i i' : ℕ} {f f' e e' v v' : Bool} → f ≡ f' → e ≡ e
     → _≡_ {A = Sense} (record { key = k; asc = c; ascq = q; filemark = f; eom = e; valid = v; information = i }) (record { key = k; asc = c; ascq = q; filemark = f'; eom = e'; valid = v'; information = i' })
 same-sense f e v i = rw (f, e, v, i)
 
-pub state-back : (st : State) → FitsRecord st → decodeState (encodeState st) ≡ st
+pub state-kept-by-cycle : StateKeptByCycle
 unfolding decodeState encodeState
-state-back st f =
+state-kept-by-cycle st f =
     let x = st .sense in
     let b = three-back (x .valid) (x .eom) (x .filemark) in
     same-state (four-back (st .position) (f .position)) (one-back (st .loaded)) (attention-back (st .attention)) (two-back (st .speed) (f .speed))
@@ -137,9 +136,9 @@ same-drive : {c c' : Cartridge} {h h' : Head} {m m' : Marks} {f : Fault} {r r' :
     → _≡_ {A = Drive} (record { cart = c; head = h; marks = m; fault = f; report = r; waiting = w; rate = rate; level = l; vendor = v; rom = rom }) (record { cart = c'; head = h'; marks = m'; fault = f; report = r'; waiting = w'; rate = rate; level = l'; vendor = v'; rom = rom })
 same-drive c h m r w l v = rw (c, h, m, r, w, l, v)
 
-pub drive-back : (d : Drive) → keepsRules d ≡ true → FitsBytes d → decodeDrive (encodeDrive d) ≡ d
+pub drive-kept-by-cycle : DriveKeptByCycle
 unfolding decodeDrive encodeDrive cartridgeIn headIn reportIn waitingIn
-drive-back d k f =
+drive-kept-by-cycle d k f =
     let rules = to-rules d k in
     let free = isFree (d .report) (d .head) (d .fault) (d .marks) in
     let p = placed (d .cart) (d .head) (rules .0 .cart) in
@@ -155,17 +154,17 @@ drive-back d k f =
 
 -- ---- what is read fits
 
-pub state-fits : (s : List ℕ) → Bytes s → FitsRecord (decodeState s)
+pub decoded-state-fits : DecodedStateFits
 unfolding decodeState
-state-fits s h = record { position = count-bound s 0 4 h; speed = count-bound s 6 2 h; information = count-bound s 12 4 h }
+decoded-state-fits s h = record { position = count-bound s 0 4 h; speed = count-bound s 6 2 h; information = count-bound s 12 4 h }
 
 held-alone : (none : Bool) (code held value : ℕ) → HeldAlone (if none then Nothing else For code held (value % 16 ^ held))
 held-alone true code held value = tt
 held-alone false code held value = mod-lt value (one-le-pow held 16 (zero-lt-suc 15))
 
-pub drive-fits : (s : List ℕ) → Bytes s → FitsBytes (decodeDrive s)
+pub decoded-drive-fits : DecodedDriveFits
 unfolding decodeDrive reportIn waitingIn waitingOf
-drive-fits s h =
+decoded-drive-fits s h =
     record {
       vendor = count-bound s 24 2 h;
       rom = h 26;

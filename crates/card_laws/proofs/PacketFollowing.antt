@@ -23,7 +23,7 @@ use Rattle.packet_record.specs.PacketRecord.{decodeState, encodeState, encodeAn
 use Rattle.tapecard.specs.PacketCalls.{packetFresh, packetChange, packetLeft, packetCall}
 use Rattle.card_laws.specs.Promises.{Bytes, PacketFollows}
 use Rattle.card_laws.proofs.ByteLaws.{four-back, in-largest, largest}
-use Rattle.card_laws.proofs.CycleLaws.{state-back, state-fits}
+use Rattle.card_laws.proofs.CycleLaws.{state-kept-by-cycle, decoded-state-fits}
 
 -- ---- what an accepted packet leaves fits
 
@@ -48,7 +48,7 @@ module _ (state image packet buf : List ℕ) (b : Bytes packet) where
       let i = count-bound packet 2 3 b in
       let m = mul-le-mul (a .blocks) (g .size-most) in
       record {
-        followed = state-back _ (record { position = omega arith; speed = omega arith; information = omega (arith, a .information) });
+        followed = state-kept-by-cycle _ (record { position = omega arith; speed = omega arith; information = omega (arith, a .information) });
         blocks = omega (arith, a .blocks);
         bytes = omega (arith, a .bytes, b 4);
       }
@@ -71,8 +71,8 @@ pub packet-follows : PacketFollows
 unfolding packetFresh packetChange packetCall packetLeft
 packet-follows =
     record {
-      fresh = state-back freshState (record { position = omega arith; speed = omega arith; information = omega arith });
-      change = λ state b. state-back _ (record { position = omega arith; speed = state-fits state b .speed; information = omega arith });
+      fresh = state-kept-by-cycle freshState (record { position = omega arith; speed = omega arith; information = omega arith });
+      change = λ state b. state-kept-by-cycle _ (record { position = omega arith; speed = decoded-state-fits state b .speed; information = omega arith });
       packet = λ state image packet buf b. whole state image packet buf b .followed;
     }
 

@@ -27,7 +27,7 @@ use Rattle.tapecard.specs.PulseCalls.{pulseLeft, pulsePowerOn, pulseTrain, puls
 use Rattle.card_laws.specs.Promises.{Bytes, FitsBytes, PulseFollows, StaysBytes}
 use Rattle.card_laws.proofs.BytesKept.{encoded-bytes}
 use Rattle.card_laws.proofs.ByteLaws.{four-back}
-use Rattle.card_laws.proofs.CycleLaws.{drive-back, drive-fits}
+use Rattle.card_laws.proofs.CycleLaws.{drive-kept-by-cycle, decoded-drive-fits}
 use Rattle.card_laws.proofs.DriveFits.{power-on-fits, train-fits, tick-fits, insert-fits, remove-fits, wait-fits}
 
 -- an accepted call leaves a drive that keeps the rules, a refused one the drive that was read; both fit their bytes
@@ -46,7 +46,7 @@ module _ (state : List ℕ) (b : Bytes state) where
   d = decodeDrive state
 
   f : FitsBytes d
-  f = drive-fits state b
+  f = decoded-drive-fits state b
 
   train-sound : (n : ℕ) → Sound state (trainCall d n .number) (trainCall d n .drive)
   train-sound n = sound (number-exactly .train d n) (rules-kept .train d n) (λ k. refused-keeps .train d n k .1) (train-fits d f n)
@@ -69,14 +69,14 @@ module _ (state : List ℕ) (b : Bytes state) where
 follows : (state : List ℕ) (number : ℕ) (level : Bool) (ticks : ℕ) (d : Drive) → Sound state number d → decodeDrive (pulseLeft state number level ticks d .state) ≡ d
 unfolding pulseLeft
 follows state number level ticks d x =
-    either (λ s. decodeDrive s ≡ d) (number ≡ᵇ notRefused) (encodeDrive d) state (λ z. drive-back d (x .ruly (eqb-true number notRefused z)) (x .fits))
+    either (λ s. decodeDrive s ≡ d) (number ≡ᵇ notRefused) (encodeDrive d) state (λ z. drive-kept-by-cycle d (x .ruly (eqb-true number notRefused z)) (x .fits))
     (λ z. sym (x .kept (eqb-false number notRefused z)))
 
 pub pulse-follows : PulseFollows
 unfolding pulsePowerOn pulseTrain pulseTick pulseInsert pulseRemove pulseWait
 pulse-follows =
     record {
-      power-on = λ vendor rom v r. drive-back (powerOn vendor rom) (rules-kept .power-on vendor rom) (power-on-fits vendor rom v r);
+      power-on = λ vendor rom v r. drive-kept-by-cycle (powerOn vendor rom) (rules-kept .power-on vendor rom) (power-on-fits vendor rom v r);
       train = λ state n b. follows state _ _ _ _ (train-sound state b n);
       tick = λ state b. follows state _ _ _ _ (tick-sound state b);
       insert = λ state cartridge b. follows state _ _ _ _ (insert-sound state b (describedCartridge cartridge) (describedPlace cartridge));

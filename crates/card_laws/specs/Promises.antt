@@ -1,4 +1,4 @@
--- What the calls promise beyond their definitions; proofs/CardLaws.antt keeps each.
+-- What the calls promise beyond their definitions; proofs/ keeps each, under its name.
 -- Assumes nothing.
 use mathlib.Core.Path.{_≡_}
 use mathlib.Core.Bool.{true}
