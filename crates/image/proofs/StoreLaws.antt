@@ -1,18 +1,19 @@
--- The two stores: the header is kept but U, the length is kept, element i reads back, and the other elements keep kind and bytes.
+-- What is laid on the tape and what is recorded of it: laying keeps the header, element i reads back, the others keep kind and bytes; recording keeps all but U.
 -- Assumes nothing.
 use mathlib.Core.Path.{_≡_, refl, sym, ap, _∙_}
 use mathlib.Core.List.{List}
 use mathlib.Core.Logic.{_⊎_, inl, inr, ⊎-elim}
 use Prim.Native.Nat.{ℕ, _+_, _*_, _-_, _<_, _≤_}
-use native.Mathlib.Nat.{mul-le-mul-right}
+use native.Mathlib.Nat.{le-refl, mul-le-mul-right}
 use native.Mathlib.Omega.{arith}
 use mathlib.Core.Bool.{Bool, true, false}
-use borrow.Author.Tests.{ltb-true, ltb-false}
+use borrow.Author.Tests.{lt-ltb, le-ltb, ltb-true, ltb-false}
 use lib.Dec.{ltb}
 use lib.ListN.{length, set, getD, length-set}
 use lib.Seq.{getD-set-same, getD-set-other}
 use borrow.Rule.Slice.PartMut.{midOf, putMid}
-use Rattle.numbers.specs.Counts.{countAt}
+use Rattle.numbers.specs.Choice.{if_then_else_}
+use Rattle.numbers.specs.Counts.{countAt, putCount}
 use Rattle.numbers.specs.Over.{over, part}
 use Rattle.numbers.proofs.CountLaws.{length-put-count, put-count-below, put-count-above, count-read-back, count-by-bytes}
 use Rattle.numbers.proofs.OverLaws.{over-length, over-below, over-above, over-part, part-same, copied-over}
@@ -20,136 +21,16 @@ use Rattle.image.specs.declared.header.Header.{Header}
 use Rattle.image.specs.declared.header.Judged.the-variants.{Good}
 use Rattle.image.specs.declared.elements.Kind.the-variants.{Data, Filemark}
 use Rattle.image.specs.Header.{fieldsOf, headerOf, withRecorded}
-use Rattle.image.specs.Elements.{kindOf, kindAt, blockAt, recordAs, storeBlock, storeFilemark}
+use Rattle.image.specs.Elements.{kindOf, kindAt, blockAt, layBlock, layMark, recordTo}
 use Rattle.image.proofs.HeaderLaws.{sound, fields-are, each-fixed, each-range, each-place, good-by, header-same}
 
--- the code's store is the definition's
-pub stored : (s : List ℕ) (size kinds blocks i a off : ℕ) (src ys zs : List ℕ) → a ≡ i * size
+-- the code's laying is the definition's
+pub laid-so : (s : List ℕ) (size kinds blocks i a off : ℕ) (src ys : List ℕ) → a ≡ i * size
     → ys ≡ over (midOf (blocks + a) (length s - (blocks + a)) s) 0 (midOf off (off + size - off) src)
-    → zs ≡ recordAs (putMid (blocks + a) (length s - (blocks + a)) s ys) kinds i 1
-    → zs ≡ storeBlock s size kinds blocks i (part src off size)
-unfolding storeBlock
-stored s size kinds blocks i a off src ys zs q e z =
-    z ∙ ap (λ (w : List ℕ). recordAs w kinds i 1) (copied-over (blocks + a) off size s src ys e ∙ ap (λ (m : ℕ). over s (blocks + m) (part src off size)) q)
-
--- ---- a kind and U stored
-
-module _ (s : List ℕ) (h : Header) (good : headerOf s ≡ Good h) (i kind : ℕ) (within : i < h .capacity) where
-  abbrev after : List ℕ
-  after = recordAs s (h .kinds) i kind
-
-  recorded-length : length after ≡ length s
-  unfolding recordAs
-  recorded-length = length-put-count (set s (h .kinds + i) kind) 8 4 (i + 1) ∙ length-set s (h .kinds + i) kind
-
-  -- a byte that is not the element's kind and not of U
-  recorded-kept : (m : ℕ) → (m ≡ h .kinds + i → ⊥) → (m < 8) ⊎ (12 ≤ m) → getD after m 0 ≡ getD s m 0
-  unfolding recordAs
-  recorded-kept m n o =
-      ⊎-elim (λ l. put-count-below (set s (h .kinds + i) kind) 8 4 (i + 1) m l) (λ l. put-count-above (set s (h .kinds + i) kind) 8 4 (i + 1) m l) o
-      ∙ getD-set-other s (h .kinds + i) m kind 0 n
-
-  recorded-kind : getD after (h .kinds + i) 0 ≡ kind
-  unfolding recordAs
-  recorded-kind =
-      let g = sound s h good in
-      put-count-above (set s (h .kinds + i) kind) 8 4 (i + 1) (h .kinds + i) (omega arith) ∙ getD-set-same s (h .kinds + i) kind 0 (omega arith)
-
-  recorded-number : (p k : ℕ) → (p + k ≤ 8) ⊎ ((12 ≤ p) × (p + k ≤ 32)) → countAt after p k ≡ countAt s p k
-  recorded-number p k o =
-      let g = sound s h good in
-      count-by-bytes after s p k (λ m a b. recorded-kept m (λ e. ⊎-elim (λ l. omega arith) (λ l. omega arith) o)
-      (⊎-elim (λ l. inl (omega arith)) (λ l. inr (omega arith)) o))
-
-  recorded-count : countAt after 8 4 ≡ i + 1
-  unfolding recordAs
-  recorded-count =
-      let g = sound s h good in
-      count-read-back (set s (h .kinds + i) kind) 8 4 (i + 1) (simp length-set (omega arith)) (omega arith)
-
-  recorded-fields : fieldsOf after ≡ withRecorded (fieldsOf s) (i + 1)
-  unfolding fieldsOf
-  recorded-fields =
-      let e1 = recorded-number 2 2 (inl (omega arith)) in
-      let e2 = recorded-number 4 4 (inl (omega arith)) in
-      let e3 = recorded-count in
-      let e4 = recorded-number 12 4 (inr (omega arith)) in
-      let e5 = recorded-number 16 4 (inr (omega arith)) in
-      let e6 = recorded-number 20 1 (inr (omega arith)) in
-      let e7 = recorded-number 21 1 (inr (omega arith)) in
-      let e8 = recorded-number 22 2 (inr (omega arith)) in
-      cc
-
-  recorded-header : headerOf after ≡ Good (withRecorded h (i + 1))
-  recorded-header =
-      let f = each-fixed s h good in
-      let r = each-range s h good in
-      let l = recorded-length in
-      let e1 = recorded-number 0 2 (inl (omega arith)) in
-      let e2 = recorded-number 24 4 (inr (omega arith)) in
-      let e3 = recorded-number 28 4 (inr (omega arith)) in
-      good-by after (withRecorded h (i + 1)) (recorded-fields ∙ ap (λ (x : Header). withRecorded x (i + 1)) (fields-are s h good))
-      (omega arith)
-      (r .0, (r .1 .0, (omega arith, r .1 .1 .1)))
-      (rw l (each-place s h good))
-
-  recorded-kind-other : (j : ℕ) → (j ≡ i → ⊥) → kindAt after (h .kinds) j ≡ kindAt s (h .kinds) j
-  unfolding kindAt
-  recorded-kind-other j n =
-      let g = sound s h good in
-      ap kindOf (recorded-kept (h .kinds + j) (λ e. n (omega arith)) (inr (omega arith)))
-
-  recorded-bytes : (j : ℕ) → j < h .capacity → blockAt after (h .size) (h .blocks) j ≡ blockAt s (h .size) (h .blocks) j
-  unfolding blockAt
-  recorded-bytes j l =
-      let g = sound s h good in
-      let q = recorded-length in
-      let m = mul-le-mul-right (h .size) l in
-      part-same after s (h .blocks + j * h .size) (h .size) (omega arith) q (λ x b. recorded-kept (h .blocks + j * h .size + x) (λ e. omega arith) (inr (omega arith)))
-
--- ---- a block's bytes laid over
-
-module _ (s : List ℕ) (h : Header) (good : headerOf s ≡ Good h) (i : ℕ) (within : i < h .capacity) (bytes : List ℕ) (whole : length bytes ≡ h .size) where
-  abbrev laid : List ℕ
-  laid = over s (h .blocks + i * h .size) bytes
-
-  room : h .blocks + i * h .size + length bytes ≤ length s
-  room =
-      let g = sound s h good in
-      let m = mul-le-mul-right (h .size) within in
-      omega arith
-
-  laid-length : length laid ≡ length s
-  laid-length = over-length s bytes (h .blocks + i * h .size) room
-
-  laid-below : (m : ℕ) → m < h .blocks → getD laid m 0 ≡ getD s m 0
-  laid-below m l = let r = room in over-below s bytes (h .blocks + i * h .size) m (omega arith) (omega arith)
-
-  laid-header : headerOf laid ≡ Good h
-  laid-header =
-      let g = sound s h good in
-      header-same s laid laid-length (λ m l. laid-below m (omega arith)) h good
-
-  laid-kind : (j : ℕ) → j < h .capacity → kindAt laid (h .kinds) j ≡ kindAt s (h .kinds) j
-  unfolding kindAt
-  laid-kind j l = let g = sound s h good in ap kindOf (laid-below (h .kinds + j) (omega arith))
-
-  laid-here : blockAt laid (h .size) (h .blocks) i ≡ bytes
-  unfolding blockAt
-  laid-here = ap (λ (n : ℕ). part laid (h .blocks + i * h .size) n) (sym whole) ∙ over-part s bytes (h .blocks + i * h .size) room
-
-  laid-other : (j : ℕ) → j < h .capacity → (j < i) ⊎ (i < j) → blockAt laid (h .size) (h .blocks) j ≡ blockAt s (h .size) (h .blocks) j
-  unfolding blockAt
-  laid-other j l o =
-      let g = sound s h good in
-      let m = mul-le-mul-right (h .size) l in
-      let r = room in
-      let q = laid-length in
-      part-same laid s (h .blocks + j * h .size) (h .size) (omega arith) q (λ x b.
-      ⊎-elim
-      (λ z. let y = mul-le-mul-right (h .size) z in over-below s bytes (h .blocks + i * h .size) (h .blocks + j * h .size + x) (omega arith) (omega arith))
-      (λ z. let y = mul-le-mul-right (h .size) z in over-above s bytes (h .blocks + i * h .size) (h .blocks + j * h .size + x) (omega arith) (omega arith))
-      o)
+    → set (putMid (blocks + a) (length s - (blocks + a)) s ys) (kinds + i) 1 ≡ layBlock s size kinds blocks i (part src off size)
+unfolding layBlock
+laid-so s size kinds blocks i a off src ys q e =
+    ap (λ (w : List ℕ). set w (kinds + i) 1) (copied-over (blocks + a) off size s src ys e ∙ ap (λ (m : ℕ). over s (blocks + m) (part src off size)) q)
 
 apart : (j i : ℕ) → (j ≡ i → ⊥) → (j < i) ⊎ (i < j)
 apart j i n = by (ltb j i) refl
@@ -158,63 +39,251 @@ apart j i n = by (ltb j i) refl
     by true e = inl (ltb-true j i e)
     by false e = let g = ltb-false j i e in inr (omega (arith, n))
 
--- ---- 01, 10h: a filemark stored as element i
+-- ---- one element laid
+
+-- t is s with an element laid at place p: one header, the other elements keep kind and bytes, and each byte m with Apart m stays
+pub record OneLaid (h : Header) (Apart : ℕ → Type 0) (p : ℕ) (s t : List ℕ) : Type 0 where
+  pub header : headerOf t ≡ Good h
+  pub size : length t ≡ length s
+  pub kinds : (j : ℕ) → j < h .capacity → (j ≡ p → ⊥) → kindAt t (h .kinds) j ≡ kindAt s (h .kinds) j
+  pub bytes : (j : ℕ) → j < h .capacity → (j ≡ p → ⊥) → blockAt t (h .size) (h .blocks) j ≡ blockAt s (h .size) (h .blocks) j
+  pub apart : (m : ℕ) → Apart m → getD t m 0 ≡ getD s m 0
+
+-- a byte that is not the element's kind; none of the element's block
+abbrev pub OffKind : Header → ℕ → ℕ → Type 0
+OffKind h i m = m ≡ h .kinds + i → ⊥
+
+abbrev pub OffBlock : Header → ℕ → ℕ → Type 0
+OffBlock h i m = (m < h .blocks + i * h .size) ⊎ (h .blocks + i * h .size + h .size ≤ m)
+
+-- laid in two steps
+laid-both : (h : Header) (A B : ℕ → Type 0) (p : ℕ) (s t w : List ℕ) → OneLaid h A p s t → OneLaid h B p t w → OneLaid h (λ m. B m × A m) p s w
+laid-both h A B p s t w x y =
+    record {
+      header = y .header;
+      size = y .size ∙ x .size;
+      kinds = λ j l n. y .kinds j l n ∙ x .kinds j l n;
+      bytes = λ j l n. y .bytes j l n ∙ x .bytes j l n;
+      apart = λ m a. y .apart m (a .0) ∙ x .apart m (a .1);
+    }
 
 module _ (s : List ℕ) (h : Header) (good : headerOf s ≡ Good h) (i : ℕ) (within : i < h .capacity) where
-  pub filemark-length : length (storeFilemark s (h .kinds) i) ≡ length s
-  unfolding storeFilemark
-  filemark-length = recorded-length s h good i 2 within
+  -- ---- its kind
 
-  pub filemark-header : headerOf (storeFilemark s (h .kinds) i) ≡ Good (withRecorded h (i + 1))
-  unfolding storeFilemark
-  filemark-header = recorded-header s h good i 2 within
+  module _ (kind : ℕ) where
+    abbrev after : List ℕ
+    after = set s (h .kinds + i) kind
 
-  pub filemark-here : kindAt (storeFilemark s (h .kinds) i) (h .kinds) i ≡ Filemark
-  unfolding storeFilemark kindAt kindOf
-  filemark-here = rw (recorded-kind s h good i 2 within)
+    kind-kept : (m : ℕ) → OffKind h i m → getD after m 0 ≡ getD s m 0
+    kind-kept m n = getD-set-other s (h .kinds + i) m kind 0 n
 
-  pub filemark-kind-other : (j : ℕ) → (j ≡ i → ⊥) → kindAt (storeFilemark s (h .kinds) i) (h .kinds) j ≡ kindAt s (h .kinds) j
-  unfolding storeFilemark
-  filemark-kind-other j n = recorded-kind-other s h good i 2 within j n
+    kind-bytes : (j : ℕ) → j < h .capacity → blockAt after (h .size) (h .blocks) j ≡ blockAt s (h .size) (h .blocks) j
+    unfolding blockAt
+    kind-bytes j l =
+        let g = sound s h good in
+        let m = mul-le-mul-right (h .size) l in
+        let q = length-set s (h .kinds + i) kind in
+        part-same after s (h .blocks + j * h .size) (h .size) (omega arith) q (λ x b. kind-kept (h .blocks + j * h .size + x) (λ e. omega arith))
 
-  -- "block bytes untouched"
-  pub filemark-bytes : (j : ℕ) → j < h .capacity → blockAt (storeFilemark s (h .kinds) i) (h .size) (h .blocks) j ≡ blockAt s (h .size) (h .blocks) j
-  unfolding storeFilemark
-  filemark-bytes j l = recorded-bytes s h good i 2 within j l
+    kind-laid : OneLaid h (OffKind h i) i s after
+    unfolding kindAt
+    kind-laid =
+        let g = sound s h good in
+        let l = length-set s (h .kinds + i) kind in
+        record {
+          header = header-same s after l (λ m b. kind-kept m (λ e. omega arith)) h good;
+          size = l;
+          kinds = λ j b n. ap kindOf (kind-kept (h .kinds + j) (λ e. n (omega arith)));
+          bytes = λ j b n. kind-bytes j b;
+          apart = kind-kept;
+        }
 
--- ---- 01, 0Ah: a block stored as element i
+    kind-set : getD after (h .kinds + i) 0 ≡ kind
+    kind-set =
+        let g = sound s h good in
+        getD-set-same s (h .kinds + i) kind 0 (omega arith)
 
-module _ (s : List ℕ) (h : Header) (good : headerOf s ≡ Good h) (i : ℕ) (within : i < h .capacity) (bytes : List ℕ) (whole : length bytes ≡ h .size) where
-  abbrev written : List ℕ
-  written = storeBlock s (h .size) (h .kinds) (h .blocks) i bytes
+  -- ---- its bytes
 
-  abbrev under : List ℕ
-  under = over s (h .blocks + i * h .size) bytes
+  module _ (new : List ℕ) (whole : length new ≡ h .size) where
+    abbrev laid : List ℕ
+    laid = over s (h .blocks + i * h .size) new
 
-  under-good : headerOf under ≡ Good h
-  under-good = laid-header s h good i within bytes whole
+    room : h .blocks + i * h .size + length new ≤ length s
+    room =
+        let g = sound s h good in
+        let m = mul-le-mul-right (h .size) within in
+        omega arith
 
-  pub block-length : length written ≡ length s
-  unfolding storeBlock
-  block-length = recorded-length under h under-good i 1 within ∙ laid-length s h good i within bytes whole
+    over-kept : (m : ℕ) → OffBlock h i m → getD laid m 0 ≡ getD s m 0
+    over-kept m o =
+        let r = room in
+        ⊎-elim (λ l. over-below s new (h .blocks + i * h .size) m (omega arith) l) (λ l. over-above s new (h .blocks + i * h .size) m (omega arith) (omega arith)) o
 
-  pub block-header : headerOf written ≡ Good (withRecorded h (i + 1))
-  unfolding storeBlock
-  block-header = recorded-header under h under-good i 1 within
+    off-block : (j x : ℕ) → x < h .size → (j < i) ⊎ (i < j) → OffBlock h i (h .blocks + j * h .size + x)
+    off-block j x b o =
+        ⊎-elim (λ z. let y = mul-le-mul-right (h .size) z in inl (omega arith)) (λ z. let y = mul-le-mul-right (h .size) z in inr (omega arith)) o
 
-  pub block-kind : kindAt written (h .kinds) i ≡ Data
-  unfolding storeBlock kindAt kindOf
-  block-kind = rw (recorded-kind under h under-good i 1 within)
+    over-laid : OneLaid h (OffBlock h i) i s laid
+    unfolding kindAt blockAt
+    over-laid =
+        let g = sound s h good in
+        let r = room in
+        let q = over-length s new (h .blocks + i * h .size) r in
+        record {
+          header = header-same s laid q (λ m b. over-kept m (inl (omega arith))) h good;
+          size = q;
+          kinds = λ j b n. ap kindOf (over-kept (h .kinds + j) (inl (omega arith)));
+          bytes = λ j b n.
+              let m = mul-le-mul-right (h .size) b in
+              part-same laid s (h .blocks + j * h .size) (h .size) (omega arith) q (λ x c. over-kept (h .blocks + j * h .size + x) (off-block j x c (apart j i n)));
+          apart = over-kept;
+        }
 
-  -- the element's bytes read back
-  pub block-here : blockAt written (h .size) (h .blocks) i ≡ bytes
-  unfolding storeBlock
-  block-here = recorded-bytes under h under-good i 1 within i within ∙ laid-here s h good i within bytes whole
+    over-here : blockAt laid (h .size) (h .blocks) i ≡ new
+    unfolding blockAt
+    over-here = ap (λ (n : ℕ). part laid (h .blocks + i * h .size) n) (sym whole) ∙ over-part s new (h .blocks + i * h .size) room
 
-  pub block-kind-other : (j : ℕ) → j < h .capacity → (j ≡ i → ⊥) → kindAt written (h .kinds) j ≡ kindAt s (h .kinds) j
-  unfolding storeBlock
-  block-kind-other j l n = recorded-kind-other under h under-good i 1 within j n ∙ laid-kind s h good i within bytes whole j l
+-- ---- 01, 10h: a filemark laid as element i, "block bytes untouched"; 01, 0Ah: a block laid as element i
 
-  pub block-bytes-other : (j : ℕ) → j < h .capacity → (j ≡ i → ⊥) → blockAt written (h .size) (h .blocks) j ≡ blockAt s (h .size) (h .blocks) j
-  unfolding storeBlock
-  block-bytes-other j l n = recorded-bytes under h under-good i 1 within j l ∙ laid-other s h good i within bytes whole j l (apart j i n)
+module _ (s : List ℕ) (h : Header) (good : headerOf s ≡ Good h) (i : ℕ) (within : i < h .capacity) where
+  pub mark-laid : OneLaid h (OffKind h i) i s (layMark s (h .kinds) i)
+  unfolding layMark
+  mark-laid = kind-laid s h good i within 2
+
+  pub mark-here : kindAt (layMark s (h .kinds) i) (h .kinds) i ≡ Filemark
+  unfolding layMark kindAt kindOf
+  mark-here = rw (kind-set s h good i within 2)
+
+  module _ (new : List ℕ) (whole : length new ≡ h .size) where
+    abbrev under : List ℕ
+    under = over s (h .blocks + i * h .size) new
+
+    under-good : headerOf under ≡ Good h
+    under-good = over-laid s h good i within new whole .header
+
+    pub block-laid : OneLaid h (λ m. OffKind h i m × OffBlock h i m) i s (layBlock s (h .size) (h .kinds) (h .blocks) i new)
+    unfolding layBlock
+    block-laid = laid-both h _ _ i s under _ (over-laid s h good i within new whole) (kind-laid under h under-good i within 1)
+
+    pub block-kind : kindAt (layBlock s (h .size) (h .kinds) (h .blocks) i new) (h .kinds) i ≡ Data
+    unfolding layBlock kindAt kindOf
+    block-kind = rw (kind-set under h under-good i within 1)
+
+    -- the element's bytes read back
+    pub block-here : blockAt (layBlock s (h .size) (h .kinds) (h .blocks) i new) (h .size) (h .blocks) i ≡ new
+    unfolding layBlock
+    block-here = kind-bytes under h under-good i within 1 i within ∙ over-here s h good i within new whole
+
+-- ---- U recorded
+
+module _ (s : List ℕ) (h : Header) (good : headerOf s ≡ Good h) (u : ℕ) (within : u ≤ h .capacity) where
+  abbrev noted : List ℕ
+  noted = putCount s 8 4 u
+
+  noted-kept : (m : ℕ) → (m < 8) ⊎ (12 ≤ m) → getD noted m 0 ≡ getD s m 0
+  noted-kept m o = ⊎-elim (λ l. put-count-below s 8 4 u m l) (λ l. put-count-above s 8 4 u m l) o
+
+  noted-number : (p k : ℕ) → (p + k ≤ 8) ⊎ (12 ≤ p) → countAt noted p k ≡ countAt s p k
+  noted-number p k o = count-by-bytes noted s p k (λ m a b. noted-kept m (⊎-elim (λ l. inl (omega arith)) (λ l. inr (omega arith)) o))
+
+  noted-fields : fieldsOf noted ≡ withRecorded (fieldsOf s) u
+  unfolding fieldsOf
+  noted-fields =
+      let g = sound s h good in
+      let e1 = noted-number 2 2 (inl (omega arith)) in
+      let e2 = noted-number 4 4 (inl (omega arith)) in
+      let e3 = count-read-back s 8 4 u (omega arith) (omega arith) in
+      let e4 = noted-number 12 4 (inr (omega arith)) in
+      let e5 = noted-number 16 4 (inr (omega arith)) in
+      let e6 = noted-number 20 1 (inr (omega arith)) in
+      let e7 = noted-number 21 1 (inr (omega arith)) in
+      let e8 = noted-number 22 2 (inr (omega arith)) in
+      cc
+
+  noted-header : headerOf noted ≡ Good (withRecorded h u)
+  noted-header =
+      let f = each-fixed s h good in
+      let r = each-range s h good in
+      let l = length-put-count s 8 4 u in
+      let e1 = noted-number 0 2 (inl (omega arith)) in
+      let e2 = noted-number 24 4 (inr (omega arith)) in
+      let e3 = noted-number 28 4 (inr (omega arith)) in
+      good-by noted (withRecorded h u) (noted-fields ∙ ap (λ (x : Header). withRecorded x u) (fields-are s h good))
+      (omega arith)
+      (r .0, (r .1 .0, (within, r .1 .1 .1)))
+      (rw l (each-place s h good))
+
+-- ---- 01, WRITE: "U = new P"
+
+-- U after a run from place p to another place
+unfoldable pub recordedAfter : ℕ → ℕ → ℕ → ℕ
+recordedAfter u p place = if ltb p place then place else u
+
+module _ (u p place : ℕ) where
+  pub after-stored : p < place → recordedAfter u p place ≡ place
+  unfolding recordedAfter
+  after-stored l = rw (lt-ltb p place l)
+
+  pub after-reached : p ≤ u → place ≤ recordedAfter u p place
+  unfolding recordedAfter
+  after-reached l = by (ltb p place) refl
+    where
+      by : (t : Bool) → ltb p place ≡ t → place ≤ (if t then place else u)
+      by true e = le-refl place
+      by false e = let g = ltb-false p place e in omega arith
+
+  pub after-either : (i : ℕ) → i < recordedAfter u p place → (i < u) ⊎ (i < place)
+  unfolding recordedAfter
+  after-either i = by (ltb p place)
+    where
+      by : (t : Bool) → i < (if t then place else u) → (i < u) ⊎ (i < place)
+      by true l = inr l
+      by false l = inl l
+
+module _ (s : List ℕ) (p place : ℕ) where
+  pub record-stored : p < place → recordTo s p place ≡ putCount s 8 4 place
+  unfolding recordTo
+  record-stored l = rw (lt-ltb p place l)
+
+  pub record-none : place ≤ p → recordTo s p place ≡ s
+  unfolding recordTo
+  record-none l = rw (le-ltb p place l)
+
+  pub record-length : length (recordTo s p place) ≡ length s
+  unfolding recordTo
+  record-length = by (ltb p place)
+    where
+      by : (t : Bool) → length (if t then putCount s 8 4 place else s) ≡ length s
+      by true = length-put-count s 8 4 place
+      by false = refl
+
+  -- every byte but U's four
+  pub record-apart : (m : ℕ) → (m < 8) ⊎ (12 ≤ m) → getD (recordTo s p place) m 0 ≡ getD s m 0
+  unfolding recordTo
+  record-apart m o = by (ltb p place)
+    where
+      by : (t : Bool) → getD (if t then putCount s 8 4 place else s) m 0 ≡ getD s m 0
+      by true = ⊎-elim (λ l. put-count-below s 8 4 place m l) (λ l. put-count-above s 8 4 place m l) o
+      by false = refl
+
+module _ (s : List ℕ) (h : Header) (good : headerOf s ≡ Good h) (p place : ℕ) (within : place ≤ h .capacity) where
+  pub record-header : headerOf (recordTo s p place) ≡ Good (withRecorded h (recordedAfter (h .recorded) p place))
+  unfolding recordTo recordedAfter
+  record-header = by (ltb p place)
+    where
+      by : (t : Bool) → headerOf (if t then putCount s 8 4 place else s) ≡ Good (withRecorded h (if t then place else h .recorded))
+      by true = noted-header s h good place within
+      by false = good
+
+  pub record-kind : (j : ℕ) → kindAt (recordTo s p place) (h .kinds) j ≡ kindAt s (h .kinds) j
+  unfolding kindAt
+  record-kind j = let g = sound s h good in ap kindOf (record-apart s p place (h .kinds + j) (inr (omega arith)))
+
+  pub record-bytes : (j : ℕ) → j < h .capacity → blockAt (recordTo s p place) (h .size) (h .blocks) j ≡ blockAt s (h .size) (h .blocks) j
+  unfolding blockAt
+  record-bytes j l =
+      let g = sound s h good in
+      let q = record-length s p place in
+      let m = mul-le-mul-right (h .size) l in
+      part-same (recordTo s p place) s (h .blocks + j * h .size) (h .size) (omega arith) q (λ x b. record-apart s p place (h .blocks + j * h .size + x) (inr (omega arith)))

@@ -3,7 +3,7 @@
 use Prim.Native.Nat.{ℕ, _+_, _*_}
 use mathlib.Core.List.{List}
 use lib.ListN.{getD, set}
-use Rattle.numbers.specs.Choice.{if_then_else_, _≡ᵇ_}
+use Rattle.numbers.specs.Choice.{if_then_else_, _≡ᵇ_, _<ᵇ_}
 use Rattle.numbers.specs.Counts.{putCount}
 use Rattle.numbers.specs.Over.{over, part}
 use Rattle.image.specs.declared.elements.Kind.{Kind}
@@ -29,18 +29,18 @@ kindAt s kinds i = kindOf (getD s (kinds + i) 0)
 unfoldable pub blockAt : List ℕ → ℕ → ℕ → ℕ → List ℕ
 blockAt s size blocks i = part s (blocks + i * size) size
 
+-- 01, WRITE: "bytes and kind 1 stored"; the header is not touched
+unfoldable pub layBlock : List ℕ → ℕ → ℕ → ℕ → ℕ → List ℕ → List ℕ
+layBlock s size kinds blocks i bytes = set (over s (blocks + i * size) bytes) (kinds + i) dataKind
+
+-- 01, 10h: "filemarks by WRITE's rules, .. block bytes untouched"
+unfoldable pub layMark : List ℕ → ℕ → ℕ → List ℕ
+layMark s kinds i = set s (kinds + i) filemarkKind
+
 -- where U stands in the header
 abbrev pub recordedField : ℕ
 recordedField = 8
 
--- 01, WRITE: ".. and kind 1 stored, P + 1, U = new P": element i has this kind and is the last one recorded
-unfoldable pub recordAs : List ℕ → ℕ → ℕ → ℕ → List ℕ
-recordAs s kinds i kind = putCount (set s (kinds + i) kind) recordedField 4 (i + 1)
-
--- 01, WRITE: "bytes and kind 1 stored, P + 1, U = new P"
-unfoldable pub storeBlock : List ℕ → ℕ → ℕ → ℕ → ℕ → List ℕ → List ℕ
-storeBlock s size kinds blocks i bytes = recordAs (over s (blocks + i * size) bytes) kinds i dataKind
-
--- 01, 10h: "filemarks by WRITE's rules, .. block bytes untouched"
-unfoldable pub storeFilemark : List ℕ → ℕ → ℕ → List ℕ
-storeFilemark s kinds i = recordAs s kinds i filemarkKind
+-- 01, WRITE: "U = new P": where a run from place p on stored something, U is its new place
+unfoldable pub recordTo : List ℕ → ℕ → ℕ → List ℕ
+recordTo s p place = if p <ᵇ place then putCount s recordedField 4 place else s

@@ -3,7 +3,7 @@ ghost use mathlib.Core.Path.{_≡_};
 ghost use Prim.Native.Nat.{_+_, _*_, _<_, _≤_};
 ghost use lib.ListN.{length};
 ghost use Rattle.numbers.specs.Over.{part};
-ghost use Rattle.image.specs.Elements.{kindAt, recordAs, storeBlock, storeFilemark};
+ghost use Rattle.image.specs.Elements.{kindAt, layBlock, layMark, recordTo};
 use crate::header::span;
 use numbers::copying::copy_block;
 use numbers::counts::put_count4;
@@ -31,17 +31,8 @@ pub fn kind_at(image: &[u8], kinds: usize, i: usize) -> Kind
     }
 }
 
-// Element i gets its kind, and is the last one recorded.
-fn record_as(image: &mut [u8], kinds: usize, i: usize, kind: u8)
-    requires { ⌜ (12 ≤ length (now image)) × (kinds + i < length (now image)) ⌝ }
-    ensures { λ _. ⌜ now (image .exit) ≡ recordAs (now (image .entry)) kinds i kind ⌝ }
-{
-    image[kinds + i] = kind;
-    put_count4(image, RECORDED_FIELD, i + 1);
-}
-
 // The block that stands in src from place off on becomes element i.
-pub fn store_block(
+pub fn lay_block(
     image: &mut [u8],
     size: usize,
     kinds: usize,
@@ -50,19 +41,30 @@ pub fn store_block(
     src: &[u8],
     off: usize,
 )
-    requires { ⌜ ((size ≤ 1024) × (i < 65535)) × ((12 ≤ kinds) × ((kinds + i < blocks) × ((blocks + (i + 1) * size ≤ length (now image)) × (off + size ≤ length (now src))))) ⌝ }
-    ensures { λ _. ⌜ now (image .exit) ≡ storeBlock (now (image .entry)) size kinds blocks i (part (now (src .entry)) off size) ⌝ }
+    requires { ⌜ ((size ≤ 1024) × (i < 65535)) × ((kinds + i < blocks) × ((blocks + (i + 1) * size ≤ length (now image)) × (off + size ≤ length (now src)))) ⌝ }
+    ensures { λ _. ⌜ now (image .exit) ≡ layBlock (now (image .entry)) size kinds blocks i (part (now (src .entry)) off size) ⌝ }
 {
     let from = blocks + span(i, size);
     let to = off + size;
     copy_block(&mut image[from..], &src[off..to]);
-    record_as(image, kinds, i, DATA);
+    image[kinds + i] = DATA;
 }
 
 // A filemark becomes element i; no block's bytes change.
-pub fn store_filemark(image: &mut [u8], kinds: usize, i: usize)
-    requires { ⌜ (12 ≤ length (now image)) × (kinds + i < length (now image)) ⌝ }
-    ensures { λ _. ⌜ now (image .exit) ≡ storeFilemark (now (image .entry)) kinds i ⌝ }
+pub fn lay_mark(image: &mut [u8], kinds: usize, i: usize)
+    requires { ⌜ kinds + i < length (now image) ⌝ }
+    ensures { λ _. ⌜ now (image .exit) ≡ layMark (now (image .entry)) kinds i ⌝ }
 {
-    record_as(image, kinds, i, FILEMARK);
+    image[kinds + i] = FILEMARK;
+}
+
+// Where a run from place p stored something, the elements up to its new place are those recorded.
+pub fn record_to(image: &mut [u8], p: usize, place: usize)
+    requires { ⌜ 12 ≤ length (now image) ⌝ }
+    ensures { λ _. ⌜ now (image .exit) ≡ recordTo (now (image .entry)) p place ⌝ }
+{
+    let stored = p < place;
+    if stored {
+        put_count4(image, RECORDED_FIELD, place);
+    }
 }

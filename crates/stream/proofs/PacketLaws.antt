@@ -1,75 +1,48 @@
 -- The ways of `decide` and `packet`.
 -- Assumes nothing.
 use mathlib.Core.Path.{_≡_, refl, sym, _∙_}
-use mathlib.Core.Bool.{Bool, true, false, not, cond, _&&_}
+use mathlib.Core.Bool.{Bool, true, false}
 use mathlib.Core.List.{List}
 use Prim.Native.Nat.{ℕ, _≤_}
 use native.Mathlib.Omega.{arith}
 use borrow.Author.Tests.{eq-eqb, ne-eqb, leb-true, ltb-false}
 use lib.ListN.{length}
-use Rattle.numbers.specs.Choice.{_<ᵇ_}
 use Rattle.numbers.proofs.RuleLaws.{split}
 use Rattle.image.specs.declared.header.Header.{Header}
 use Rattle.image.specs.declared.header.Judged.{Judged}
 use Rattle.image.specs.declared.header.Judged.the-variants.{Good, Broken}
 use Rattle.image.specs.Header.{headerOf}
 use Rattle.stream_parts.specs.declared.requests.Request.{Request}
+use Rattle.stream_parts.specs.declared.state.Attention.{Attention}
 use Rattle.stream_parts.specs.declared.state.Outcome.{Outcome}
 use Rattle.stream_parts.specs.declared.state.Sense.{Sense}
 use Rattle.stream_parts.specs.declared.state.State.{State}
 use Rattle.stream_parts.specs.declared.state.Verdict.{Verdict}
 use Rattle.stream_parts.specs.declared.state.Verdict.the-variants.{Refuses, Ends, Works}
-use Rattle.stream_parts.specs.Answers.{done, refused, endsBefore, shortBuffer}
-use Rattle.stream_parts.specs.Checks.{isPending, conditionsOf, badFieldOf, wrongLength, neededBy, tapeVerdictOf, verdictOf}
+use Rattle.stream_parts.specs.Answers.{done, refused, endsBefore}
+use Rattle.stream_parts.specs.Checks.{askedBy, foundFirst, verdictBy, verdictOf}
 use Rattle.stream.specs.Packet.{carriedOut, decided, judged, packetStep}
-use Rattle.stream_parts.specs.Replies.{isProtected}
 use Rattle.stream_parts.specs.Requests.{requestOf}
-use Rattle.stream_parts.specs.Senses.{unitAttention, invalidOpcode, invalidField, wrongListLength, notLoaded, writeProtected}
 use Rattle.stream_parts.specs.States.{keepsRecordRules}
 use Rattle.stream.specs.Work.{workOf}
 
 -- ---- a packet that comes to its work has the room that it needs
 
-not-works : (x : Sense) → Ends x ≡ Works → ⊥
-not-works x e = let z : _≡_ {A = ℕ} 0 1 = cc in omega arith
-
-past : (b : Bool) (x : Sense) (y : Verdict) → cond b (Ends x) y ≡ Works → y ≡ Works
-past true x y e = absurd (not-works x e)
-past false x y e = e
-
-last : (b : Bool) (n : ℕ) → cond b (Refuses n) Works ≡ Works → b ≡ false
-last true n e = let z : _≡_ {A = ℕ} 0 1 = cc in absurd (omega arith)
-last false n e = refl
+works-clear : (x : Attention) (a b c d e f g : Bool) → foundFirst x a b c d e f g ≡ Works → g ≡ false
+unfolding foundFirst
+works-clear x true b c d e f g p = let z : _≡_ {A = ℕ} 0 1 = cc in absurd (omega arith)
+works-clear x false true c d e f g p = let z : _≡_ {A = ℕ} 0 1 = cc in absurd (omega arith)
+works-clear x false false true d e f g p = let z : _≡_ {A = ℕ} 0 1 = cc in absurd (omega arith)
+works-clear x false false false true e f g p = let z : _≡_ {A = ℕ} 0 1 = cc in absurd (omega arith)
+works-clear x false false false false true f g p = let z : _≡_ {A = ℕ} 0 1 = cc in absurd (omega arith)
+works-clear x false false false false false true g p = let z : _≡_ {A = ℕ} 0 1 = cc in absurd (omega arith)
+works-clear x false false false false false false true p = let z : _≡_ {A = ℕ} 0 1 = cc in absurd (omega arith)
+works-clear x false false false false false false false p = refl
 
 module _ (h : Header) (st : State) (q : Request) (room : ℕ) where
-  abbrev short : Bool
-  short = room <ᵇ neededBy (q .command) h q
-
-  abbrev from-protection : Verdict
-  from-protection = cond (conditionsOf (q .command) .stores && isProtected h) (Ends writeProtected) (cond short (Refuses shortBuffer) Works)
-
-  abbrev from-tape : Verdict
-  from-tape = cond (conditionsOf (q .command) .mounted && not (st .loaded)) (Ends notLoaded) from-protection
-
-  abbrev from-length : Verdict
-  from-length = cond (conditionsOf (q .command) .listed && wrongLength (q .length)) (Ends wrongListLength) from-tape
-
-  abbrev from-fields : Verdict
-  from-fields = cond (badFieldOf (q .command) q) (Ends invalidField) from-length
-
-  abbrev from-opcode : Verdict
-  from-opcode = cond (not (conditionsOf (q .command) .known)) (Ends invalidOpcode) from-fields
-
-  pub works-room : (v : Verdict) → v ≡ verdictOf h st q room → v ≡ Works → neededBy (q .command) h q ≤ room
-  unfolding verdictOf tapeVerdictOf
-  works-room v p e =
-      let e0 = past (isPending (st .attention) && not (conditionsOf (q .command) .exempt)) (unitAttention (st .attention)) from-opcode (sym p ∙ e) in
-      let e1 = past (not (conditionsOf (q .command) .known)) invalidOpcode from-fields e0 in
-      let e2 = past (badFieldOf (q .command) q) invalidField from-length e1 in
-      let e3 = past (conditionsOf (q .command) .listed && wrongLength (q .length)) wrongListLength from-tape e2 in
-      let e4 = past (conditionsOf (q .command) .mounted && not (st .loaded)) notLoaded from-protection e3 in
-      let e5 = past (conditionsOf (q .command) .stores && isProtected h) writeProtected (cond short (Refuses shortBuffer) Works) e4 in
-      ltb-false room (neededBy (q .command) h q) (last short shortBuffer e5)
+  pub works-room : (v : Verdict) → v ≡ verdictOf h st q room → v ≡ Works → askedBy (q .command) h q .needed ≤ room
+  unfolding verdictOf verdictBy
+  works-room v p e = ltb-false room _ (works-clear (st .attention) _ _ _ _ _ _ _ (sym p ∙ e))
 
 -- ---- the ways of `decide`
 

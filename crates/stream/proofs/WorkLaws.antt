@@ -7,20 +7,21 @@ use Prim.Native.Nat.{ℕ, _≤_, min}
 use lib.ListN.{length, take}
 use Rattle.numbers.specs.Over.{over}
 use Rattle.image.specs.declared.header.Header.{Header}
+use Rattle.image.specs.Elements.{recordTo}
 use Rattle.opcodes.specs.declared.Command.{Command}
 use Rattle.opcodes.specs.declared.Command.the-variants.{Unknown, TestUnitReady, Rewind, RequestSense, Read, Write, WriteFilemarks, Space, Inquiry, ModeSelect, ModeSense, LoadUnload, Locate, ReadPosition}
 use Rattle.transfer.specs.declared.Moved.{Moved}
 use Rattle.transfer.specs.Reading.{Reading, reads, readFrom}
 use Rattle.transfer.specs.Writing.{Writing, writes, writeFrom, markFrom}
 use Rattle.transfer.proofs.ReadLaws.{read-left}
-use Rattle.transfer.proofs.WriteLaws.{write-left, mark-left}
+use Rattle.transfer.proofs.WriteLaws.{lay-left}
 use Rattle.stream_parts.specs.declared.requests.Request.{Request}
 use Rattle.stream_parts.specs.declared.state.Ending.{Ending}
 use Rattle.stream_parts.specs.declared.state.Ending.the-variants.{Good}
 use Rattle.stream_parts.specs.declared.state.Outcome.{Outcome}
 use Rattle.stream_parts.specs.declared.state.State.{State}
 use Rattle.stream_parts.specs.Answers.{done, ends}
-use Rattle.stream_parts.specs.Checks.{neededBy}
+use Rattle.stream_parts.specs.Checks.{askedBy}
 use Rattle.stream_parts.specs.Replies.{senseBytes, inquiryBytes, hasPage, modeHeader, modePage, modeBytes, positionBytes}
 use Rattle.stream_parts.specs.Requests.{spaceCode, loadBit}
 use Rattle.stream_parts.specs.States.{atPlace}
@@ -41,20 +42,22 @@ module _ (s : List ℕ) (h : Header) (st : State) (asked : ℕ) (buf new : List 
 module _ (s : List ℕ) (h : Header) (st : State) (asked : ℕ) (buf new : List ℕ) (m : Moved)
     (run : writes new m ≡ writeFrom (h .size) (h .kinds) (h .blocks) (h .capacity) buf asked 0 (st .position) s) where
   pub write-less : m .left ≤ asked
-  write-less = rw (ap (λ (r : Writing). r .moved .left) run) (write-left (h .size) (h .kinds) (h .blocks) (h .capacity) buf asked 0 (st .position) s)
+  write-less = rw (ap (λ (r : Writing). r .moved .left) run) (lay-left _ _ _ asked 0 (st .position) s)
 
-  pub write-went : (x : Ending) (r : Outcome) → x ≡ writeEnding h asked m → r ≡ moves st asked (h .size) m x → done r new buf ≡ writeWork s h st asked buf
+  pub write-went : (x : Ending) (r : Outcome) (last : List ℕ) → last ≡ recordTo new (st .position) (m .place) → x ≡ writeEnding h asked m
+      → r ≡ moves st asked (h .size) m x → done r last buf ≡ writeWork s h st asked buf
   unfolding writeWork writeEnds
-  write-went x r p q = rw (← run, q, p)
+  write-went x r last e p q = rw (← run, q, p, e)
 
 module _ (s : List ℕ) (h : Header) (st : State) (asked : ℕ) (buf new : List ℕ) (m : Moved)
     (run : writes new m ≡ markFrom (h .kinds) (h .capacity) asked (st .position) s) where
   pub mark-less : m .left ≤ asked
-  mark-less = rw (ap (λ (r : Writing). r .moved .left) run) (mark-left (h .kinds) (h .capacity) asked (st .position) s)
+  mark-less = rw (ap (λ (r : Writing). r .moved .left) run) (lay-left _ _ _ asked 0 (st .position) s)
 
-  pub mark-went : (x : Ending) (r : Outcome) → x ≡ writeEnding h asked m → r ≡ moves st asked 0 m x → done r new buf ≡ markWork s h st asked buf
+  pub mark-went : (x : Ending) (r : Outcome) (last : List ℕ) → last ≡ recordTo new (st .position) (m .place) → x ≡ writeEnding h asked m
+      → r ≡ moves st asked 0 m x → done r last buf ≡ markWork s h st asked buf
   unfolding markWork writeEnds
-  mark-went x r p q = rw (← run, q, p)
+  mark-went x r last e p q = rw (← run, q, p, e)
 
 -- ---- the first of some bytes
 
@@ -77,7 +80,7 @@ without-page h st q e = rw e
 
 -- ---- by command
 
-pub needed-as : (k d : Command) (h : Header) (q : Request) (n : ℕ) → k ≡ d → neededBy k h q ≤ n → neededBy d h q ≤ n
+pub needed-as : (k d : Command) (h : Header) (q : Request) (n : ℕ) → k ≡ d → askedBy k h q .needed ≤ n → askedBy d h q .needed ≤ n
 needed-as k d h q n e l = rw e at l
 
 module _ (k : Command) (s : List ℕ) (h : Header) (st : State) (q : Request) (buf : List ℕ) (r : Outcome) where

@@ -9,6 +9,7 @@ use Rattle.numbers.specs.Counts.{countAt}
 use Rattle.numbers.specs.Member.{isIn}
 use Rattle.numbers.specs.Over.{over}
 use Rattle.image.specs.declared.header.Header.{Header}
+use Rattle.image.specs.Elements.{recordTo}
 use Rattle.opcodes.specs.declared.Command.{Command}
 use Rattle.opcodes.specs.declared.Command.the-variants.{Unknown, TestUnitReady, Rewind, RequestSense, Read, Write, WriteFilemarks, Space, Inquiry, ModeSelect, ModeSense, LoadUnload, Locate, ReadPosition}
 use Rattle.transfer.specs.declared.Moved.{Moved}
@@ -60,8 +61,10 @@ writeEnding h asked moved =
     if (1 ≤ᵇ asked) && pastWarning h (moved .place) then Check earlyWarning else
     Good
 
+-- "U = new P", once for all that the run stored
 unfoldable pub writeEnds : Header → State → ℕ → ℕ → List ℕ → Writing → Step
-writeEnds h st asked size buf w = done (moves st asked size (w .moved) (writeEnding h asked (w .moved))) (w .image) buf
+writeEnds h st asked size buf w =
+    done (moves st asked size (w .moved) (writeEnding h asked (w .moved))) (recordTo (w .image) (st .position) (w .moved .place)) buf
 
 unfoldable pub writeWork : List ℕ → Header → State → ℕ → List ℕ → Step
 writeWork s h st asked buf =

@@ -6,9 +6,10 @@ ghost use Rattle.numbers.specs.Over.{over};
 ghost use Rattle.image.specs.Header.{headerOf};
 ghost use Rattle.image.specs.declared.header.Judged.the-variants.{Good};
 ghost use Rattle.stream_parts.specs.Answers.{done};
-ghost use Rattle.stream_parts.specs.Checks.{neededBy};
+ghost use Rattle.stream_parts.specs.Checks.{askedBy};
 ghost use Rattle.stream_parts.specs.Replies.{senseBytes, inquiryBytes, modeLength, modeBytes, positionBytes};
 ghost use Rattle.stream.specs.Work.{endingOf, moves, readWork, writeEnding, writeWork, markWork, spaceRun, spaceWork, firstOf, replyEnds, goodList, selectWork, loadWork, locateWork, workOf};
+use image::elements::record_to;
 use image::header::Header;
 use numbers::copying::copy_block;
 use numbers::counts::count2;
@@ -111,6 +112,7 @@ fn write(image: &mut [u8], h: Header, state: State, asked: usize, buf: &[u8]) ->
     let p = state.position;
     let size = h.size;
     let moved = write_blocks(image, size, h.kinds, h.blocks, h.capacity, buf, asked, p);
+    record_to(image, p, moved.place);
     let ending = write_ending(h, asked, moved);
     end_moved(state, asked, size, moved, ending)
 }
@@ -122,6 +124,7 @@ fn write_marks(image: &mut [u8], h: Header, state: State, asked: usize, buf: &[u
 {
     let p = state.position;
     let moved = write_filemarks(image, h.kinds, h.capacity, asked, p);
+    record_to(image, p, moved.place);
     let ending = write_ending(h, asked, moved);
     end_moved(state, asked, 0, moved, ending)
 }
@@ -264,7 +267,7 @@ fn locate(h: Header, state: State, target: usize) -> Outcome
 }
 
 pub fn work(image: &mut [u8], h: Header, state: State, q: Request, buf: &mut [u8]) -> Outcome
-    requires { ⌜ ((headerOf (now image) ≡ Good h) × ((state .position ≤ h .recorded) × (state .sense .key ≤ 15))) × ((q .count < 2 ^ 24) × (neededBy (q .command) h q ≤ length (now buf))) ⌝ }
+    requires { ⌜ ((headerOf (now image) ≡ Good h) × ((state .position ≤ h .recorded) × (state .sense .key ≤ 15))) × ((q .count < 2 ^ 24) × (askedBy (q .command) h q .needed ≤ length (now buf))) ⌝ }
     ensures { λ r. ⌜ done r (now (image .exit)) (now (buf .exit)) ≡ workOf (q .command) (now (image .entry)) h state q (now (buf .entry)) ⌝ }
 {
     let command = q.command;

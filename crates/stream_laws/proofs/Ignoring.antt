@@ -1,10 +1,10 @@
 -- Images that are alike below U are answered alike, and stay alike.
 -- Assumes nothing.
 use Prim.Native.Nat.{ℕ, zero, suc, _+_, _*_, _-_, _≤_, _<_}
-use native.Mathlib.Nat.{le-refl}
 use native.Mathlib.Omega.{arith}
 use mathlib.Core.Bool.{Bool, true, false, not}
 use mathlib.Core.List.{List}
+use mathlib.Core.Logic.{_⊎_, inl, inr, ⊎-elim}
 use mathlib.Core.Path.{_≡_, refl, sym, _∙_}
 use borrow.Author.Tests.{leb-false, eqb-true, eqb-false}
 use lib.Dec.{leb, eqb}
@@ -17,23 +17,25 @@ use Rattle.image.specs.declared.elements.Kind.the-variants.{Data, Filemark, Unr
 use Rattle.image.specs.declared.header.Header.{Header}
 use Rattle.image.specs.declared.header.Judged.{Judged}
 use Rattle.image.specs.declared.header.Judged.the-variants.{Good as GoodHeader, Broken}
-use Rattle.image.specs.Elements.{kindAt, blockAt}
-use Rattle.image.specs.Header.{headerOf, withRecorded}
-use Rattle.image.proofs.HeaderLaws.{fields-are}
-use Rattle.image.proofs.StoreLaws.{filemark-here, block-kind, block-here}
+use Rattle.image.specs.Elements.{kindAt, blockAt, recordTo}
+use Rattle.image.specs.Header.{headerOf}
+use Rattle.image.proofs.HeaderLaws.{fields-are, sound}
+use Rattle.image.proofs.StoreLaws.{OneLaid, mark-laid, mark-here, block-kind, block-here, after-either, record-header, record-kind, record-bytes}
 use Rattle.opcodes.specs.declared.Command.{Command}
 use Rattle.opcodes.specs.declared.Command.the-variants.{Unknown, TestUnitReady, Rewind, RequestSense, Read, Write, WriteFilemarks, Space, Inquiry, ModeSelect, ModeSense, LoadUnload, Locate, ReadPosition}
-use Rattle.transfer.specs.declared.Stop.the-variants.{AtEnd}
+use Rattle.transfer.specs.declared.Stop.{Stop}
+use Rattle.transfer.specs.declared.Stop.the-variants.{Full, AtEnd}
 use Rattle.transfer.specs.Moving.{halts}
 use Rattle.transfer.specs.Reading.{Reading, byKind, readFrom}
 use Rattle.transfer.specs.Spacing.{blocksOn, blocksBack, marksLeft, marksOn, marksBack}
-use Rattle.transfer.specs.Writing.{Writing, writes, writeFrom, markFrom}
+use Rattle.transfer.proofs.LaidLaws.{block-of}
+use Rattle.transfer.specs.Writing.{Writing, writes, layFrom, blockOf, markOf}
 use Rattle.stream_parts.specs.declared.requests.Request.{Request}
 use Rattle.stream_parts.specs.declared.state.Outcome.{Outcome}
 use Rattle.stream_parts.specs.declared.state.State.{State}
 use Rattle.stream_parts.specs.declared.state.Verdict.{Verdict}
 use Rattle.stream_parts.specs.Answers.{Step, done, refused, notTwelveBytes, brokenRecord}
-use Rattle.stream_parts.specs.Checks.{neededBy}
+use Rattle.stream_parts.specs.Checks.{askedBy}
 use Rattle.stream_parts.specs.Requests.{requestOf, magnitude, spaceCode}
 use Rattle.stream_parts.specs.States.{keepsRecordRules}
 use Rattle.stream.specs.Packet.{packetLength, packetStep, judged, decided, carriedOut}
@@ -41,7 +43,6 @@ use Rattle.stream.specs.Work.{workOf, readWork, readEnds, spaceRun, spaceWork, 
 use Rattle.stream_laws.specs.Words.{ReadsSame, Alike}
 use Rattle.stream_laws.specs.Demands.{BeyondIgnored}
 use Rattle.stream_laws.proofs.Endings.{ruly-of}
-use Rattle.stream_laws.proofs.Runs.{OneStored, one-mark, one-of}
 use Rattle.stream_laws.proofs.Ways.{Found, found-early, found-short, found-clear, found}
 
 -- ---- runs that only look
@@ -91,79 +92,96 @@ module _ (h : Header) (s t : List ℕ) (alike : (i : ℕ) → i < h .recorded �
 
 -- ---- runs that store
 
--- good images with the header h but U, which is u
-record Same (h : Header) (u : ℕ) (s t : List ℕ) : Type 0 where
-  left : headerOf s ≡ GoodHeader (withRecorded h u)
-  right : headerOf t ≡ GoodHeader (withRecorded h u)
-  elements : (i : ℕ) → i < u → ReadsSame h s t i
+-- good images with one header, whose elements read the same below U and below the place p
+record Same (h : Header) (p : ℕ) (s t : List ℕ) : Type 0 where
+  left : headerOf s ≡ GoodHeader h
+  right : headerOf t ≡ GoodHeader h
+  elements : (i : ℕ) → (i < h .recorded) ⊎ (i < p) → ReadsSame h s t i
 
-alike-of : (h : Header) (u : ℕ) (s t : List ℕ) → Same h u s t → Alike s t
-alike-of h u s t a =
-    record {
-      header = a .right ∙ sym (a .left);
-      elements = rw (fields-are s _ (a .left)) (λ i l. record { kind = a .elements i l .kind; bytes = a .elements i l .bytes });
-    }
+of-alike : (h : Header) (p : ℕ) (s t : List ℕ) → headerOf s ≡ GoodHeader h → p ≤ h .recorded → Alike s t → Same h p s t
+of-alike h p s t e l a =
+    record { left = e; right = a .header ∙ e; elements = λ i o. rw (fields-are s h e) at (a .elements) i (⊎-elim (λ m. m) (λ m. omega arith) o) }
 
-of-alike : (h : Header) (s t : List ℕ) → headerOf s ≡ GoodHeader h → Alike s t → Same h (h .recorded) s t
-of-alike h s t e a = record { left = e; right = a .header ∙ e; elements = rw (fields-are s h e) at (a .elements) }
-
-record StoredSame (x y : Writing) : Type 0 where
+record LaidSame (h : Header) (x y : Writing) : Type 0 where
   moved : y .moved ≡ x .moved
-  images : Alike (x .image) (y .image)
+  reached : x .moved .place ≤ h .capacity
+  images : Same h (x .moved .place) (x .image) (y .image)
 
 module _ (h : Header) where
   -- one element more
-  same-on : {Apart : ℕ → ℕ → Type 0} {u p : ℕ} {s t s' t' : List ℕ} → Same h u s t → p ≤ u
-      → OneStored h Apart p s s' → OneStored h Apart p t t' → ReadsSame h s' t' p → Same h (p + 1) s' t'
-  same-on {p = p} {s' = s'} {t' = t'} a l x y here = record { left = x .header; right = y .header; elements = λ i m. by i m (eqb i p) refl }
+  same-on : {A : ℕ → Type 0} {p : ℕ} {s t s' t' : List ℕ} → Same h p s t → p < h .capacity
+      → OneLaid h A p s s' → OneLaid h A p t t' → ReadsSame h s' t' p → Same h (p + 1) s' t'
+  same-on {p = p} {s = s} {s' = s'} {t' = t'} a l x y here = record { left = x .header; right = y .header; elements = λ i m. by i m (eqb i p) refl }
     where
-      by : (i : ℕ) → i < p + 1 → (b : Bool) → eqb i p ≡ b → ReadsSame h s' t' i
+      by : (i : ℕ) → (i < h .recorded) ⊎ (i < p + 1) → (b : Bool) → eqb i p ≡ b → ReadsSame h s' t' i
       by i m true e = rw (eqb-true i p e) here
       by i m false e =
           let n = eqb-false i p e in
-          let j : i < p = omega arith in
-          let o = a .elements i (omega arith) in
-          record { kind = y .kinds i j ∙ o .kind ∙ sym (x .kinds i j); bytes = λ d. y .bytes i j ∙ o .bytes (sym (x .kinds i j) ∙ d) ∙ sym (x .bytes i j) }
+          let g = sound s h (a .left) in
+          let c : i < h .capacity = ⊎-elim (λ k. omega arith) (λ k. omega arith) m in
+          let o = a .elements i (⊎-elim (λ k. inl k) (λ k. inr (omega (arith, n))) m) in
+          record { kind = y .kinds i c n ∙ o .kind ∙ sym (x .kinds i c n); bytes = λ d. y .bytes i c n ∙ o .bytes (sym (x .kinds i c n) ∙ d) ∙ sym (x .bytes i c n) }
+
+  laid-none : (p left : ℕ) (stop : Stop) (s t : List ℕ) → Same h p s t → p ≤ h .capacity → LaidSame h (writes s (halts p left stop)) (writes t (halts p left stop))
+  laid-none p left stop s t a l = record { moved = refl; reached = l; images = a }
 
   -- the end of the tape, or on
-  unless-full : (u p left : ℕ) (s t : List ℕ) (X Y : Writing) → Same h u s t → (p < h .capacity → StoredSame X Y) → (b : Bool) → leb (h .capacity) p ≡ b
-      → StoredSame (if b then writes s (halts p left AtEnd) else X) (if b then writes t (halts p left AtEnd) else Y)
-  unless-full u p left s t X Y a f true e = record { moved = refl; images = alike-of h u s t a }
-  unless-full u p left s t X Y a f false e = f (leb-false _ _ e)
+  unless-full : (p left : ℕ) (s t : List ℕ) (X Y : Writing) → Same h p s t → p ≤ h .capacity → (p < h .capacity → LaidSame h X Y) → (b : Bool) → leb (h .capacity) p ≡ b
+      → LaidSame h (if b then writes s (halts p left AtEnd) else X) (if b then writes t (halts p left AtEnd) else Y)
+  unless-full p left s t X Y a l f true e = laid-none p left AtEnd s t a l
+  unless-full p left s t X Y a l f false e = f (leb-false _ _ e)
 
-  marks-same : (u n p : ℕ) (s t : List ℕ) → Same h u s t → p ≤ u
-      → StoredSame (markFrom (h .kinds) (h .capacity) n p s) (markFrom (h .kinds) (h .capacity) n p t)
-  unfolding markFrom
-  marks-same u zero p s t a l = record { moved = refl; images = alike-of h u s t a }
-  marks-same u (suc n) p s t a l =
-      unless-full u p (suc n) s t _ _ a (λ c.
-      let k = filemark-here s (withRecorded h u) (a .left) p c in
-      let k' = filemark-here t (withRecorded h u) (a .right) p c in
-      marks-same (p + 1) n (p + 1) _ _
-      (same-on a l (one-mark h u s (a .left) p c) (one-mark h u t (a .right) p c)
-      (record { kind = k' ∙ sym k; bytes = λ d. absurd (no-data (sym k ∙ d)) }))
-      (le-refl (p + 1))) (leb (h .capacity) p) refl
+  -- a run whose elements are laid so, with their bytes below `room`, and read the same where they are laid
+  module _ {Apart : ℕ → ℕ → Type 0} (lay : ℕ → ℕ → List ℕ → List ℕ) (size room : ℕ)
+      (one : (off p : ℕ) (s : List ℕ) → headerOf s ≡ GoodHeader h → p < h .capacity → off + size ≤ room → OneLaid h (Apart p) p s (lay off p s))
+      (here : (off p : ℕ) (s t : List ℕ) → headerOf s ≡ GoodHeader h → headerOf t ≡ GoodHeader h → p < h .capacity → off + size ≤ room
+      → ReadsSame h (lay off p s) (lay off p t) p) where
+    laid-same : (n off p : ℕ) (s t : List ℕ) → Same h p s t → p ≤ h .capacity → off + n * size ≤ room
+        → LaidSame h (layFrom lay size (h .capacity) n off p s) (layFrom lay size (h .capacity) n off p t)
+    unfolding layFrom
+    laid-same zero off p s t a l r = laid-none p 0 Full s t a l
+    laid-same (suc n) off p s t a l r =
+        unless-full p (suc n) s t _ _ a l (λ c.
+        laid-same n (off + size) (p + 1) _ _
+        (same-on a c (one off p s (a .left) c (omega arith)) (one off p t (a .right) c (omega arith)) (here off p s t (a .left) (a .right) c (omega arith)))
+        (omega arith) (omega arith)) (leb (h .capacity) p) refl
+
+  mark-same : (off p : ℕ) (s t : List ℕ) → headerOf s ≡ GoodHeader h → headerOf t ≡ GoodHeader h → p < h .capacity → off + 0 ≤ 0
+      → ReadsSame h (markOf (h .kinds) off p s) (markOf (h .kinds) off p t) p
+  mark-same off p s t x y c r =
+      let k = mark-here s h x p c in
+      record { kind = mark-here t h y p c ∙ sym k; bytes = λ d. absurd (no-data (sym k ∙ d)) }
     where
       no-data : Filemark ≡ Data → ⊥
       no-data e = let z : _≡_ {A = ℕ} 0 1 = cc in omega arith
 
-  blocks-same : (src : List ℕ) (u n off p : ℕ) (s t : List ℕ) → Same h u s t → p ≤ u → off + n * h .size ≤ length src
-      → StoredSame (writeFrom (h .size) (h .kinds) (h .blocks) (h .capacity) src n off p s)
-      (writeFrom (h .size) (h .kinds) (h .blocks) (h .capacity) src n off p t)
-  unfolding writeFrom
-  blocks-same src u zero off p s t a l r = record { moved = refl; images = alike-of h u s t a }
-  blocks-same src u (suc n) off p s t a l r =
-      unless-full u p (suc n) s t _ _ a (λ c.
-      let g = withRecorded h u in
+  block-same : (src : List ℕ) (off p : ℕ) (s t : List ℕ) → headerOf s ≡ GoodHeader h → headerOf t ≡ GoodHeader h → p < h .capacity → off + h .size ≤ length src
+      → ReadsSame h (blockOf (h .size) (h .kinds) (h .blocks) src off p s) (blockOf (h .size) (h .kinds) (h .blocks) src off p t) p
+  block-same src off p s t x y c r =
       let new = part src off (h .size) in
-      let w = part-length src off (h .size) (omega arith) in
-      blocks-same src (p + 1) n (off + h .size) (p + 1) _ _
-      (same-on a l (one-of h src u s (a .left) off p c (omega arith)) (one-of h src u t (a .right) off p c (omega arith))
-      (record {
-        kind = block-kind t g (a .right) p c new w ∙ sym (block-kind s g (a .left) p c new w);
-        bytes = λ d. block-here t g (a .right) p c new w ∙ sym (block-here s g (a .left) p c new w);
-      }))
-      (le-refl (p + 1)) (omega arith)) (leb (h .capacity) p) refl
+      let w = part-length src off (h .size) r in
+      record {
+        kind = block-kind t h y p c new w ∙ sym (block-kind s h x p c new w);
+        bytes = λ d. block-here t h y p c new w ∙ sym (block-here s h x p c new w);
+      }
+
+  -- and U recorded
+  recorded-same : (p place : ℕ) (s t : List ℕ) → Same h place s t → place ≤ h .capacity → Alike (recordTo s p place) (recordTo t p place)
+  recorded-same p place s t a l =
+      let g = sound s h (a .left) in
+      let e = record-header s h (a .left) p place l in
+      record {
+        header = record-header t h (a .right) p place l ∙ sym e;
+        elements = rw (fields-are _ _ e) (λ i m.
+            let o = after-either (h .recorded) p place i m in
+            let c : i < h .capacity = ⊎-elim (λ k. omega arith) (λ k. omega arith) o in
+            let r = a .elements i o in
+            let k = record-kind s h (a .left) p place l i in
+            record {
+              kind = record-kind t h (a .right) p place l i ∙ r .kind ∙ sym k;
+              bytes = λ d. record-bytes t h (a .right) p place l i c ∙ r .bytes (sym k ∙ d) ∙ sym (record-bytes s h (a .left) p place l i c);
+            });
+      }
 
 -- ---- the whole packet
 
@@ -177,36 +195,45 @@ module _ (s t : List ℕ) (alike : Alike s t) (st : State) where
   looked out buf = record { out = refl; buf = refl; images = alike }
 
   module _ (h : Header) (good : headerOf s ≡ GoodHeader h) (rules : keepsRecordRules h st ≡ true) (q : Request) (buf : List ℕ) where
-    same : Same h (h .recorded) s t
-    same = of-alike h s t good alike
-
     within : st .position ≤ h .recorded
     within = ruly-of h st rules .place
 
-    wrote : (size : ℕ) (X Y : Writing) → StoredSame X Y → AnsweredSame (writeEnds h st (q .count) size buf X) (writeEnds h st (q .count) size buf Y)
+    inside : st .position ≤ h .capacity
+    inside =
+        let g = sound s h good in
+        let w = within in
+        omega arith
+
+    same : Same h (st .position) s t
+    same = of-alike h (st .position) s t good within alike
+
+    below : (i : ℕ) → i < h .recorded → ReadsSame h s t i
+    below i l = same .elements i (inl l)
+
+    wrote : (size : ℕ) (X Y : Writing) → LaidSame h X Y → AnsweredSame (writeEnds h st (q .count) size buf X) (writeEnds h st (q .count) size buf Y)
     unfolding writeEnds
-    wrote size X Y a = record { out = rw (a .moved); buf = refl; images = a .images }
+    wrote size X Y a =
+        record { out = rw (a .moved); buf = refl; images = rw (a .moved) (recorded-same h (st .position) (X .moved .place) (X .image) (Y .image) (a .images) (a .reached)) }
 
     space-same : (code n : ℕ) → spaceRun t h (st .position) code n ≡ spaceRun s h (st .position) code n
     unfolding spaceRun
     space-same code n =
-        let e = same .elements in
         rw (
-          blocks-back-same h s t e (st .position) (magnitude n) within,
-          blocks-on-same h s t e (magnitude n) (st .position),
-          marks-back-same h s t e (st .position) (magnitude n) within,
-          marks-on-same h s t e (h .recorded - st .position) (magnitude n) (st .position) (omega (arith, within)),
+          blocks-back-same h s t below (st .position) (magnitude n) within,
+          blocks-on-same h s t below (magnitude n) (st .position),
+          marks-back-same h s t below (st .position) (magnitude n) within,
+          marks-on-same h s t below (h .recorded - st .position) (magnitude n) (st .position) (omega (arith, within)),
         )
 
-    work-same : (c : Command) → neededBy c h q ≤ length buf → AnsweredSame (workOf c s h st q buf) (workOf c t h st q buf)
-    unfolding workOf neededBy readWork readEnds spaceWork writeWork markWork
+    work-same : (c : Command) → askedBy c h q .needed ≤ length buf → AnsweredSame (workOf c s h st q buf) (workOf c t h st q buf)
+    unfolding workOf askedBy readWork readEnds spaceWork writeWork markWork
     work-same Unknown l = looked _ _
     work-same TestUnitReady l = looked _ _
     work-same Rewind l = looked _ _
     work-same RequestSense l = looked _ _
-    work-same Read l = rw (read-same h s t (same .elements) (q .count) 0 (st .position) buf) (looked _ _)
-    work-same Write l = wrote (h .size) _ _ (blocks-same h buf (h .recorded) (q .count) 0 (st .position) s t same within (omega arith))
-    work-same WriteFilemarks l = wrote 0 _ _ (marks-same h (h .recorded) (q .count) (st .position) s t same within)
+    work-same Read l = rw (read-same h s t below (q .count) 0 (st .position) buf) (looked _ _)
+    work-same Write l = wrote (h .size) _ _ (laid-same h _ (h .size) (length buf) (block-of h buf) (block-same h buf) (q .count) 0 (st .position) s t same inside (omega arith))
+    work-same WriteFilemarks l = wrote 0 _ _ (laid-same h _ 0 0 (λ off p s g c r. mark-laid s h g p c) (mark-same h) (q .count) 0 (st .position) s t same inside (omega arith))
     work-same Space l = rw (space-same (spaceCode q) (q .count)) (looked _ _)
     work-same Inquiry l = looked _ _
     work-same ModeSelect l = looked _ _

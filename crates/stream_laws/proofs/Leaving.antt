@@ -19,14 +19,16 @@ use Rattle.image.specs.declared.header.Header.{Header}
 use Rattle.image.specs.declared.header.Judged.the-variants.{Good as GoodHeader}
 use Rattle.image.specs.Header.{fieldsOf, keepsHeaderRules, headerOf, withRecorded}
 use Rattle.image.proofs.HeaderLaws.{sound}
+use Rattle.image.proofs.StoreLaws.{OffKind, recordedAfter, after-stored, after-reached, record-none, record-length, record-apart, record-header, record-kind, record-bytes}
 use Rattle.opcodes.specs.declared.Command.{Command}
 use Rattle.opcodes.specs.declared.Command.the-variants.{Unknown, TestUnitReady, Rewind, RequestSense, Read, Write, WriteFilemarks, Space, Inquiry, ModeSelect, ModeSense, LoadUnload, Locate, ReadPosition}
 use Rattle.transfer.specs.declared.Moved.{Moved}
 use Rattle.transfer.specs.Reading.{readFrom}
 use Rattle.transfer.specs.Spacing.{blocksOn, blocksBack, marksOn, marksBack}
-use Rattle.transfer.specs.Writing.{Writing, writeFrom, markFrom}
+use Rattle.transfer.specs.Writing.{Writing, blockOf, writeFrom, markOf, markFrom}
 use Rattle.transfer.proofs.ReadLaws.{read-run, read-left, read-place, read-length}
-use Rattle.transfer.proofs.WriteLaws.{write-run, write-left, write-passed, mark-run, mark-left, mark-passed}
+use Rattle.transfer.proofs.WriteLaws.{lay-run, lay-left, lay-passed}
+use Rattle.transfer.proofs.LaidLaws.{Laid, Apart, marks-laid, blocks-laid}
 use Rattle.transfer.proofs.SpaceLaws.{blocks-on-ended, blocks-on-place, blocks-back-ended, blocks-back-place, marks-on-ended, marks-on-place, marks-back-ended, marks-back-place}
 use Rattle.stream_parts.specs.declared.requests.Request.{Request}
 use Rattle.stream_parts.specs.declared.state.Ending.{Ending}
@@ -35,17 +37,17 @@ use Rattle.stream_parts.specs.declared.state.Outcome.{Outcome}
 use Rattle.stream_parts.specs.declared.state.Sense.{Sense}
 use Rattle.stream_parts.specs.declared.state.State.{State}
 use Rattle.stream_parts.specs.Answers.{Step, done, ends, endsBefore}
-use Rattle.stream_parts.specs.Checks.{conditionsOf, neededBy}
+use Rattle.stream_parts.specs.Checks.{askedBy}
 use Rattle.stream_parts.specs.Replies.{positionLength, senseBytes, inquiryBytes, modeBytes, positionBytes, modeLength, hasPage, modeHeader, modePage}
 use Rattle.stream.specs.Packet.{packetStep}
 use Rattle.stream_parts.specs.Requests.{requestOf, spaceCode, isBack, devicePage, overBlocks, toEndOfData, shortList, fullList, magnitude, loadBit}
 use Rattle.stream_parts.specs.Senses.{wrongList, beyondData}
 use Rattle.stream_parts.specs.States.{speeds, keepsRecordRules, atPlace, withSpeed}
 use Rattle.stream.specs.Work.{moves, endingOf, readEnds, readWork, writeEnding, writeEnds, writeWork, markWork, spaceRun, spaceEnds, spaceWork, firstOf, replyEnds, replyWork, listSpeed, goodList, selectWork, loadWork, locateWork, workOf}
-use Rattle.stream_laws.specs.Words.{stores, gives, numberOf, blocksOf, bytesOf, stateOf, SameElement, Outside, Untouched}
+use Rattle.stream_laws.specs.Words.{storesOn, stores, gives, numberOf, blocksOf, bytesOf, stateOf, SameElement, Outside, Untouched}
 use Rattle.stream_laws.proofs.Endings.{senseOf, ends-is, Modest, ending-modest, write-modest, Ruly, ruly-of}
 use Rattle.stream_laws.proofs.Ways.{Way, cut, broken, unruly, short, ends-early, works, way}
-use Rattle.stream_laws.proofs.Runs.{copied, few-moved, Went, ApartMark, ApartBlock, marks-went, blocks-went}
+use Rattle.stream_laws.proofs.Runs.{copied, few-moved}
 
 -- the outcome of a packet that is not refused: the record it leaves is in rule, and its numbers go by what was asked for
 pub record Accepted (h : Header) (q : Request) (x : Outcome) : Type 0 where
@@ -242,32 +244,43 @@ module _ (s : List ℕ) (st : State) (q : Request) (buf : List ℕ) (good : keep
 
   -- ---- WRITE and WRITE FILEMARK
 
+  within : p ≤ h .capacity
+  within =
+      let g = sound s h (good-header s good) in
+      let r = kept-rules in
+      omega arith
+
   stored : (Apart : ℕ → ℕ → Type 0) (size : ℕ) (X : Writing) → size ≤ h .size → X .moved .left ≤ n → X .moved .place + X .moved .left ≡ p + n
-      → Went h Apart (h .recorded) p s X
-      → ((m : ℕ) → Outside 8 4 m → Outside (h .kinds + p) (n - X .moved .left) m → Outside (h .blocks + p * h .size) ((n - X .moved .left) * size) m
+      → Laid h Apart p s X
+      → ((m : ℕ) → Outside (h .kinds + p) (n - X .moved .left) m → Outside (h .blocks + p * h .size) ((n - X .moved .left) * size) m
       → (i : ℕ) → p ≤ i → i < X .moved .place → Apart i m)
       → Leaves s st q buf true false (writeEnds h st n size buf X)
   unfolding writeEnds
   stored Apart size X y l t w a =
+      let place = X .moved .place in
       let e = writeEnding h n (X .moved) in
       let m = write-modest h n (X .moved) in
       let f = w .onward in
-      let g = sound _ _ (w .header) .recorded-within in
-      let c = w .reached in
+      let g = w .reached in
+      let c = after-reached (h .recorded) p place (kept-rules .place) in
       let b = mul-le-mul-left (n - X .moved .left) y in
       record {
-        u = w .u;
-        header = w .header;
-        reached = omega (arith, w .reached);
-        new-u = λ f b. rw ends-is (w .new-u (omega (arith, rw ends-is at b)));
-        accepted = ended (w .u) _ e _ _ c (kept-rules .speed) (omega arith) (omega arith) (omega arith);
-        image-length = w .size;
+        u = recordedAfter (h .recorded) p place;
+        header = record-header (X .image) h (w .header) p place g;
+        reached = omega arith;
+        new-u = λ f b. rw ends-is (after-stored (h .recorded) p place (omega (arith, rw ends-is at b)));
+        accepted = ended (recordedAfter (h .recorded) p place) _ e _ _ c (kept-rules .speed) (omega arith) (omega arith) (omega arith);
+        image-length = record-length (X .image) p place ∙ w .size;
         buf-length = refl;
         buf-beyond = λ i m. refl;
         no-gift = λ f. refl;
-        untouched = λ m o. w .apart m (a m (o .not-recorded) (rw ends-is at (o .not-kind)) (rw ends-is at (o .not-block)));
-        below = λ j b. record { kind = w .kinds j b; bytes = w .bytes j b };
-        none-stored = λ z. let y = rw ends-is at z in w .none (omega arith);
+        untouched = λ m o. record-apart (X .image) p place m (o .not-recorded) ∙ w .apart m (a m (rw ends-is at (o .not-kind)) (rw ends-is at (o .not-block)));
+        below = λ j b.
+            record {
+              kind = record-kind (X .image) h (w .header) p place g j ∙ w .kinds j b;
+              bytes = record-bytes (X .image) h (w .header) p place g j (omega arith) ∙ w .bytes j b;
+            };
+        none-stored = λ z. let y = rw ends-is at z in record-none (X .image) p place (omega arith) ∙ w .none (omega arith);
         no-store = λ z. absurd (false≢true (sym z));
       }
 
@@ -279,16 +292,16 @@ module _ (s : List ℕ) (st : State) (q : Request) (buf : List ℕ) (good : keep
   unfolding writeWork
   writes l =
       let X = writeFrom (h .size) (h .kinds) (h .blocks) (h .capacity) buf n 0 p s in
-      let less = write-left (h .size) (h .kinds) (h .blocks) (h .capacity) buf n 0 p s in
-      let passed = write-passed (h .size) (h .kinds) (h .blocks) (h .capacity) buf n 0 p s in
-      stored (ApartBlock h) (h .size) X (le-refl (h .size)) less passed
-      (blocks-went h buf (h .recorded) (write-run (h .size) (h .kinds) (h .blocks) (h .capacity) buf n 0 p s) (good-header s good) (kept-rules .place) (omega arith))
-      (λ m o k b i x y.
+      let less = lay-left (blockOf (h .size) (h .kinds) (h .blocks) buf) (h .size) (h .capacity) n 0 p s in
+      let passed = lay-passed (blockOf (h .size) (h .kinds) (h .blocks) buf) (h .size) (h .capacity) n 0 p s in
+      stored (Apart h) (h .size) X (le-refl (h .size)) less passed
+      (blocks-laid h (h .capacity) (le-refl (h .capacity)) buf (lay-run (blockOf (h .size) (h .kinds) (h .blocks) buf) (h .size) (h .capacity) n 0 p s) (good-header s good) within (omega arith))
+      (λ m k b i x y.
       let z = mul-le-mul-right (h .size) x in
       let w = mul-le-mul-right (h .size) y in
       let v : X .moved .place ≡ p + (n - X .moved .left) = omega arith in
       let v' : X .moved .place * h .size ≡ p * h .size + (n - X .moved .left) * h .size = ap (λ (a : ℕ). a * h .size) v ∙ omega arith in (
-        (o, apart-kind (X .moved .left) (X .moved .place) m passed less k i x y),
+        apart-kind (X .moved .left) (X .moved .place) m passed less k i x y,
         ⊎-elim (λ c. inl (omega arith)) (λ c. inr (omega arith)) b,
       ))
 
@@ -296,16 +309,16 @@ module _ (s : List ℕ) (st : State) (q : Request) (buf : List ℕ) (good : keep
   unfolding markWork
   marks =
       let X = markFrom (h .kinds) (h .capacity) n p s in
-      let less = mark-left (h .kinds) (h .capacity) n p s in
-      let passed = mark-passed (h .kinds) (h .capacity) n p s in
-      stored (ApartMark h) 0 X (omega arith) less passed
-      (marks-went h (h .recorded) (mark-run (h .kinds) (h .capacity) n p s) (good-header s good) (kept-rules .place))
-      (λ m o k b i x y. (o, apart-kind (X .moved .left) (X .moved .place) m passed less k i x y))
+      let less = lay-left (markOf (h .kinds)) 0 (h .capacity) n 0 p s in
+      let passed = lay-passed (markOf (h .kinds)) 0 (h .capacity) n 0 p s in
+      stored (OffKind h) 0 X (omega arith) less passed
+      (marks-laid h (h .capacity) (le-refl (h .capacity)) (lay-run (markOf (h .kinds)) 0 (h .capacity) n 0 p s) (good-header s good) within)
+      (λ m k b i x y. apart-kind (X .moved .left) (X .moved .place) m passed less k i x y)
 
   -- ---- by command
 
-  pub work-leaves : (c : Command) → neededBy c h q ≤ length buf → Leaves s st q buf (conditionsOf c .stores) (gives c) (workOf c s h st q buf)
-  unfolding workOf neededBy
+  pub work-leaves : (c : Command) → askedBy c h q .needed ≤ length buf → Leaves s st q buf (storesOn c) (gives c) (workOf c s h st q buf)
+  unfolding workOf askedBy
   work-leaves Unknown l = quiet st Good 0 (kept-rules .place) (kept-rules .speed) (omega arith)
   work-leaves TestUnitReady l = quiet st Good 0 (kept-rules .place) (kept-rules .speed) (omega arith)
   work-leaves Rewind l = quiet (atPlace st 0) Good 0 (omega arith) (kept-rules .speed) (omega arith)

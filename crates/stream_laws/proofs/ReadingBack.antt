@@ -1,7 +1,7 @@
 -- A written block reads back the same until something is stored at or before its place.
 -- Assumes nothing.
 use Prim.Native.Nat.{ℕ, suc, _+_, _*_, _-_, _≤_, _<_}
-use native.Mathlib.Nat.{zero-add}
+use native.Mathlib.Nat.{le-refl, zero-add}
 use native.Mathlib.Omega.{arith}
 use mathlib.Core.Bool.{Bool, true, false}
 use mathlib.Core.List.{List}
@@ -13,19 +13,21 @@ use Rattle.numbers.specs.Over.{part}
 use Rattle.image.specs.declared.elements.Kind.the-variants.{Data}
 use Rattle.image.specs.declared.header.Header.{Header}
 use Rattle.image.specs.declared.header.Judged.the-variants.{Good}
-use Rattle.image.specs.Elements.{kindAt, blockAt}
+use Rattle.image.specs.Elements.{kindAt, blockAt, recordTo}
 use Rattle.image.specs.Header.{fieldsOf, headerOf, withRecorded}
 use Rattle.image.proofs.HeaderLaws.{fields-are, sound}
+use Rattle.image.proofs.StoreLaws.{recordedAfter, after-reached, record-header, record-kind, record-bytes}
 use Rattle.opcodes.specs.declared.Command.{Command}
 use Rattle.opcodes.specs.declared.Command.the-variants.{Read, Write}
 use Rattle.transfer.specs.Reading.{readFrom}
-use Rattle.transfer.specs.Writing.{writeFrom}
+use Rattle.transfer.specs.Writing.{blockOf, writeFrom}
 use Rattle.transfer.proofs.ReadLaws.{read-run, read-left, read-block}
-use Rattle.transfer.proofs.WriteLaws.{write-run, write-left, write-passed}
+use Rattle.transfer.proofs.LaidLaws.{blocks-laid, blocks-read-back}
+use Rattle.transfer.proofs.WriteLaws.{lay-run, lay-left, lay-passed}
 use Rattle.stream_parts.specs.declared.requests.Request.{Request}
 use Rattle.stream_parts.specs.declared.state.State.{State}
 use Rattle.stream_parts.specs.Answers.{Step}
-use Rattle.stream_parts.specs.Checks.{neededBy}
+use Rattle.stream_parts.specs.Checks.{askedBy}
 use Rattle.stream.specs.Packet.{packetStep}
 use Rattle.stream_parts.specs.Requests.{requestOf}
 use Rattle.stream.specs.Work.{workOf, readWork, readEnds, writeWork, writeEnds}
@@ -36,7 +38,7 @@ use Rattle.stream_laws.proofs.Endings.{ends-is, ruly-of}
 use Rattle.stream_laws.proofs.Keeping.{keeps-of}
 use Rattle.stream_laws.proofs.Leaving.{Leaves, accepted-leaves, good-header}
 use Rattle.stream_laws.proofs.Refusals.{refused-keeps}
-use Rattle.stream_laws.proofs.Runs.{data-moved, read-first, blocks-went, blocks-stored}
+use Rattle.stream_laws.proofs.Runs.{data-moved, read-first}
 use Rattle.stream_laws.proofs.Ways.{Passes}
 use Rattle.stream_laws.proofs.Working.{begins-passes, begins-room, begins-work}
 
@@ -102,13 +104,20 @@ module _ (s : List ℕ) (st : State) (q : Request) (buf : List ℕ) (good : head
   written j b =
       let n = q .count in
       let X = writeFrom (h .size) (h .kinds) (h .blocks) (h .capacity) buf n 0 (st .position) s in
-      let run = write-run (h .size) (h .kinds) (h .blocks) (h .capacity) buf n 0 (st .position) s in
-      let less = write-left (h .size) (h .kinds) (h .blocks) (h .capacity) buf n 0 (st .position) s in
-      let passed = write-passed (h .size) (h .kinds) (h .blocks) (h .capacity) buf n 0 (st .position) s in
+      let run = lay-run (blockOf (h .size) (h .kinds) (h .blocks) buf) (h .size) (h .capacity) n 0 (st .position) s in
+      let less = lay-left (blockOf (h .size) (h .kinds) (h .blocks) buf) (h .size) (h .capacity) n 0 (st .position) s in
+      let passed = lay-passed (blockOf (h .size) (h .kinds) (h .blocks) buf) (h .size) (h .capacity) n 0 (st .position) s in
       let moved : j < n - X .moved .left = rw ends-is at b in
-      let w = blocks-went h buf (h .recorded) run good place (omega arith) in
-      let z = blocks-stored h buf (h .recorded) run good place (omega arith) j (omega arith) in
-      is-block (X .image) (withRecorded h (w .u)) (st .position + j) _ (w .header) (omega (arith, w .reached)) (z .0) (rw zero-add at (z .1))
+      let to = X .moved .place in
+      let g = sound s h good in
+      let w = blocks-laid h (h .capacity) (le-refl (h .capacity)) buf run good (omega arith) (omega arith) in
+      let z = blocks-read-back h (h .capacity) (le-refl (h .capacity)) buf run good (omega arith) j (omega arith) in
+      let c = after-reached (h .recorded) (st .position) to (omega arith) in
+      let b = w .reached in
+      is-block (recordTo (X .image) (st .position) to) (withRecorded h (recordedAfter (h .recorded) (st .position) to)) (st .position + j) _
+      (record-header (X .image) h (w .header) (st .position) to b) (omega arith)
+      (record-kind (X .image) h (w .header) (st .position) to b (st .position + j) ∙ z .0)
+      (record-bytes (X .image) h (w .header) (st .position) to b (st .position + j) (omega arith) ∙ rw zero-add at (z .1))
 
   moves-first : (bytes : List ℕ) → IsBlock s (st .position) bytes → 1 ≤ q .count → 1 ≤ blocksOf (readWork s h st (q .count) buf)
   unfolding readWork readEnds
@@ -138,18 +147,18 @@ module _ (s : List ℕ) (st : State) (packet buf : List ℕ) (b : Begins s st pa
   step-is : (c : Command) → requestOf packet .command ≡ c → packetStep s st packet buf ≡ workOf c s (fieldsOf s) st (requestOf packet) buf
   step-is c e = rw (← e) (begins-work s st packet buf b)
 
-  room-is : (c : Command) → requestOf packet .command ≡ c → neededBy c (fieldsOf s) (requestOf packet) ≤ length buf
+  room-is : (c : Command) → requestOf packet .command ≡ c → askedBy c (fieldsOf s) (requestOf packet) .needed ≤ length buf
   room-is c e = rw (← e) (begins-room s st packet buf b)
 
 pub read-gives : ReadGives
-unfolding workOf neededBy
+unfolding workOf askedBy
 read-gives s st packet buf b c =
     let p = begins-passes s st packet buf b in
     rw (step-is s st packet buf b Read c)
     (copied-whole s st (requestOf packet) buf (good-header s (p .good)) (ruly-of _ _ (p .ruly) .place) (room-is s st packet buf b Read c))
 
 pub read-moves : ReadMoves
-unfolding workOf neededBy
+unfolding workOf askedBy
 read-moves s st packet buf bytes b c =
     let p = begins-passes s st packet buf b in
     rw (step-is s st packet buf b Read c)
@@ -158,7 +167,7 @@ read-moves s st packet buf bytes b c =
 block-stored : (s : List ℕ) (st : State) (packet buf : List ℕ) → Begins s st packet buf → requestOf packet .command ≡ Write
     → (j : ℕ) → j < blocksOf (packetStep s st packet buf)
     → IsBlock (packetStep s st packet buf .image) (st .position + j) (part buf (j * fieldsOf s .size) (fieldsOf s .size))
-unfolding workOf neededBy
+unfolding workOf askedBy
 block-stored s st packet buf b c j n =
     let p = begins-passes s st packet buf b in
     let e = step-is s st packet buf b Write c in

@@ -11,7 +11,7 @@ use Rattle.image.specs.Header.{fieldsOf, headerOf}
 use Rattle.stream_parts.specs.declared.state.State.{State}
 use Rattle.stream_parts.specs.declared.state.Verdict.{Verdict}
 use Rattle.stream_parts.specs.Answers.{Step, done, refused, notTwelveBytes, shortBuffer}
-use Rattle.stream_parts.specs.Checks.{neededBy}
+use Rattle.stream_parts.specs.Checks.{askedBy}
 use Rattle.stream.specs.Packet.{packetLength, packetStep, judged, carriedOut}
 use Rattle.stream_parts.specs.Requests.{requestOf}
 use Rattle.stream_laws.specs.Words.{numberOf, endsEarly, Refusal, Due, not-twelve, bad-image, bad-record, too-short, accepted}
@@ -54,7 +54,7 @@ module _ (s : List ℕ) (st : State) (packet buf : List ℕ) where
   -- ---- and the number that is due is given
 
   short-by : {v : Verdict} → Found (fieldsOf s) st (requestOf packet) (length buf) v → endsEarly (fieldsOf s) st (requestOf packet) ≡ false
-      → length buf < neededBy (requestOf packet .command) (fieldsOf s) (requestOf packet)
+      → length buf < askedBy (requestOf packet .command) (fieldsOf s) (requestOf packet) .needed
       → numberOf (carriedOut v s (fieldsOf s) st (requestOf packet) buf) ≡ shortBuffer
   unfolding carriedOut
   short-by (found-early x e k) f l = absurd (false≢true (sym f ∙ e))
@@ -62,7 +62,7 @@ module _ (s : List ℕ) (st : State) (packet buf : List ℕ) where
   short-by (found-clear e m) f l = absurd (omega arith)
 
   accepted-by : {v : Verdict} → Passes s st packet buf → Found (fieldsOf s) st (requestOf packet) (length buf) v
-      → (endsEarly (fieldsOf s) st (requestOf packet) ≡ false → neededBy (requestOf packet .command) (fieldsOf s) (requestOf packet) ≤ length buf)
+      → (endsEarly (fieldsOf s) st (requestOf packet) ≡ false → askedBy (requestOf packet .command) (fieldsOf s) (requestOf packet) .needed ≤ length buf)
       → numberOf (carriedOut v s (fieldsOf s) st (requestOf packet) buf) ≡ 0
   unfolding carriedOut
   accepted-by p (found-early x e k) f = refl

@@ -20,7 +20,7 @@ use Rattle.stream_parts.specs.declared.state.State.{State}
 use Rattle.stream_parts.specs.declared.state.Verdict.{Verdict}
 use Rattle.stream_parts.specs.declared.state.Verdict.the-variants.{Refuses, Ends, Works}
 use Rattle.stream_parts.specs.Answers.{Step, done, refused, endsBefore, notTwelveBytes, brokenRecord, shortBuffer}
-use Rattle.stream_parts.specs.Checks.{conditionsOf, isPending, badFieldOf, wrongLength, neededBy, tapeVerdictOf, verdictOf}
+use Rattle.stream_parts.specs.Checks.{askedBy, foundFirst, verdictBy, verdictOf}
 use Rattle.stream.specs.Packet.{packetLength, packetStep, judged, decided, carriedOut}
 use Rattle.stream_parts.specs.Replies.{isProtected}
 use Rattle.stream_parts.specs.Requests.{requestOf}
@@ -35,18 +35,17 @@ use Rattle.stream_laws.proofs.Endings.{Modest}
 module _ (h : Header) (st : State) (q : Request) (room : ℕ) where
   pub data Found : Verdict → Type 0 where
     found-early : (x : Sense) → endsEarly h st q ≡ true → Modest 0 x → Found (Ends x)
-    found-short : endsEarly h st q ≡ false → room < neededBy (q .command) h q → Found (Refuses shortBuffer)
-    found-clear : endsEarly h st q ≡ false → neededBy (q .command) h q ≤ room → Found Works
+    found-short : endsEarly h st q ≡ false → room < askedBy (q .command) h q .needed → Found (Refuses shortBuffer)
+    found-clear : endsEarly h st q ≡ false → askedBy (q .command) h q .needed ≤ room → Found Works
 
   attention-modest : (a : Attention) → Modest 0 (unitAttention a)
   attention-modest Nothing = omega arith
   attention-modest MediumChanged = omega arith
   attention-modest Reset = omega arith
 
-  found-by : (a b c d e f g : Bool) → endsEarly h st q ≡ (a || b || c || d || e || f) → ltb room (neededBy (q .command) h q) ≡ g
-      → Found
-      (if a then Ends (unitAttention (st .attention)) else if b then Ends invalidOpcode else if c then Ends invalidField else
-      if d then Ends wrongListLength else if e then Ends notLoaded else if f then Ends writeProtected else if g then Refuses shortBuffer else Works)
+  found-by : (a b c d e f g : Bool) → endsEarly h st q ≡ (a || b || c || d || e || f) → ltb room (askedBy (q .command) h q .needed) ≡ g
+      → Found (foundFirst (st .attention) a b c d e f g)
+  unfolding foundFirst
   found-by true b c d e f g p t = found-early (unitAttention (st .attention)) p (attention-modest (st .attention))
   found-by false true c d e f g p t = found-early invalidOpcode p (omega arith)
   found-by false false true d e f g p t = found-early invalidField p (omega arith)
@@ -57,11 +56,8 @@ module _ (h : Header) (st : State) (q : Request) (room : ℕ) where
   found-by false false false false false false false p t = found-clear p (ltb-false room _ t)
 
   pub found : Found (verdictOf h st q room)
-  unfolding verdictOf tapeVerdictOf endsEarly
-  found =
-      found-by (isPending (st .attention) && not (conditionsOf (q .command) .exempt)) (not (conditionsOf (q .command) .known)) (badFieldOf (q .command) q)
-      (conditionsOf (q .command) .listed && wrongLength (q .length)) (conditionsOf (q .command) .mounted && not (st .loaded)) (conditionsOf (q .command) .stores && isProtected h)
-      (ltb room (neededBy (q .command) h q)) refl refl
+  unfolding verdictOf verdictBy endsEarly
+  found = found-by _ _ _ _ _ _ _ refl refl
 
 -- ---- the whole packet
 
@@ -84,10 +80,10 @@ module _ (s : List ℕ) (st : State) (packet buf : List ℕ) where
     unruly : length packet ≡ packetLength → keepsHeaderRules s ≡ true → keepsRecordRules (fieldsOf s) st ≡ false
         → Way (done (refused st brokenRecord) s buf)
     short : Passes → endsEarly (fieldsOf s) st (requestOf packet) ≡ false
-        → length buf < neededBy (requestOf packet .command) (fieldsOf s) (requestOf packet) → Way (done (refused st shortBuffer) s buf)
+        → length buf < askedBy (requestOf packet .command) (fieldsOf s) (requestOf packet) .needed → Way (done (refused st shortBuffer) s buf)
     ends-early : Passes → (x : Sense) → endsEarly (fieldsOf s) st (requestOf packet) ≡ true → Modest 0 x → Way (done (endsBefore st x) s buf)
     works : Passes → endsEarly (fieldsOf s) st (requestOf packet) ≡ false
-        → neededBy (requestOf packet .command) (fieldsOf s) (requestOf packet) ≤ length buf
+        → askedBy (requestOf packet .command) (fieldsOf s) (requestOf packet) .needed ≤ length buf
         → Way (workOf (requestOf packet .command) s (fieldsOf s) st (requestOf packet) buf)
 
   by-verdict : {v : Verdict} → Passes → Found h st q (length buf) v → Way (carriedOut v s h st q buf)

@@ -8,11 +8,11 @@ use lib.ListN.{length}
 use Rattle.image.specs.Header.{fieldsOf}
 use Rattle.opcodes.specs.declared.Command.{Command}
 use Rattle.transfer.proofs.ReadLaws.{read-ended}
-use Rattle.transfer.proofs.WriteLaws.{write-ended, mark-ended}
+use Rattle.transfer.proofs.WriteLaws.{lay-ended}
 use Rattle.stream_parts.specs.declared.requests.Request.{Request}
 use Rattle.stream_parts.specs.declared.state.State.{State}
 use Rattle.stream_parts.specs.Answers.{Step}
-use Rattle.stream_parts.specs.Checks.{neededBy}
+use Rattle.stream_parts.specs.Checks.{askedBy}
 use Rattle.stream.specs.Packet.{packetStep, carriedOut}
 use Rattle.stream.proofs.PacketLaws.{works-room}
 use Rattle.stream_parts.specs.Requests.{requestOf}
@@ -35,7 +35,7 @@ module _ (s : List ℕ) (st : State) (packet buf : List ℕ) where
     pub begins-passes : Passes s st packet buf
     begins-passes = passed-by (way s st packet buf) (b .not-refused)
 
-    pub begins-room : neededBy (requestOf packet .command) (fieldsOf s) (requestOf packet) ≤ length buf
+    pub begins-room : askedBy (requestOf packet .command) (fieldsOf s) (requestOf packet) .needed ≤ length buf
     begins-room = works-room (fieldsOf s) st (requestOf packet) (length buf) _ refl (b .works)
 
     pub begins-work : packetStep s st packet buf ≡ workOf (requestOf packet .command) s (fieldsOf s) st (requestOf packet) buf
@@ -51,10 +51,10 @@ moved-by s st q buf by-read =
     simp ends-is (read-residue (q .count) _ (read-ended s (h .size) (h .kinds) (h .blocks) (h .recorded) (q .count) 0 (st .position) buf))
 moved-by s st q buf by-write =
     let h = fieldsOf s in
-    simp ends-is (write-residue h (q .count) _ (write-ended (h .size) (h .kinds) (h .blocks) (h .capacity) buf (q .count) 0 (st .position) s))
+    simp ends-is (write-residue h (q .count) _ (lay-ended _ _ _ (q .count) 0 (st .position) s))
 moved-by s st q buf by-filemarks =
     let h = fieldsOf s in
-    simp ends-is (write-residue h (q .count) _ (mark-ended (h .kinds) (h .capacity) (q .count) (st .position) s))
+    simp ends-is (write-residue h (q .count) _ (lay-ended _ _ _ (q .count) 0 (st .position) s))
 
 pub moved-plus-residue : MovedPlusResidue
 moved-plus-residue s st packet buf b m = rw (begins-work s st packet buf b) (moved-by s st (requestOf packet) buf m)

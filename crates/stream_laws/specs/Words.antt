@@ -19,7 +19,7 @@ use Rattle.stream_parts.specs.declared.state.Sense.{Sense}
 use Rattle.stream_parts.specs.declared.state.State.{State}
 use Rattle.stream_parts.specs.declared.state.Verdict.the-variants.{Works}
 use Rattle.stream_parts.specs.Answers.{Step, notTwelveBytes, brokenRecord, shortBuffer}
-use Rattle.stream_parts.specs.Checks.{conditionsOf, isPending, badFieldOf, wrongLength, neededBy, verdictOf}
+use Rattle.stream_parts.specs.Checks.{askedBy, isHeld, verdictOf}
 use Rattle.stream.specs.Packet.{packetLength, packetStep}
 use Rattle.stream_parts.specs.Replies.{isProtected}
 use Rattle.stream_parts.specs.Requests.{requestOf}
@@ -60,12 +60,12 @@ pub record Refusal (s : List ℕ) (st : State) (buf : List ℕ) (x : Step) : Typ
 -- 01: "attention, opcode, fields, not ready, protection": one of these ends the packet before refusal 4 is looked at
 unfoldable pub endsEarly : Header → State → Request → Bool
 endsEarly h st q =
-    (isPending (st .attention) && not (conditionsOf (q .command) .exempt))
-    || not (conditionsOf (q .command) .known)
-    || badFieldOf (q .command) q
-    || (conditionsOf (q .command) .listed && wrongLength (q .length))
-    || (conditionsOf (q .command) .mounted && not (st .loaded))
-    || (conditionsOf (q .command) .stores && isProtected h)
+    isHeld (st .attention) (askedBy (q .command) h q .exempt)
+    || not (askedBy (q .command) h q .known)
+    || askedBy (q .command) h q .field
+    || askedBy (q .command) h q .length
+    || (askedBy (q .command) h q .mounted && not (st .loaded))
+    || (askedBy (q .command) h q .stores && isProtected h)
 
 -- 01's table of refusal numbers, each with no earlier one holding; 0 where none is given
 pub data Due (s : List ℕ) (st : State) (packet buf : List ℕ) : ℕ → Type 0 where
@@ -74,10 +74,10 @@ pub data Due (s : List ℕ) (st : State) (packet buf : List ℕ) : ℕ → Type 
   bad-record : length packet ≡ packetLength → keepsHeaderRules s ≡ true → keepsRecordRules (fieldsOf s) st ≡ false → Due s st packet buf brokenRecord
   too-short : length packet ≡ packetLength → keepsHeaderRules s ≡ true → keepsRecordRules (fieldsOf s) st ≡ true
       → endsEarly (fieldsOf s) st (requestOf packet) ≡ false
-      → length buf < neededBy (requestOf packet .command) (fieldsOf s) (requestOf packet)
+      → length buf < askedBy (requestOf packet .command) (fieldsOf s) (requestOf packet) .needed
       → Due s st packet buf shortBuffer
   accepted : length packet ≡ packetLength → keepsHeaderRules s ≡ true → keepsRecordRules (fieldsOf s) st ≡ true
-      → (endsEarly (fieldsOf s) st (requestOf packet) ≡ false → neededBy (requestOf packet .command) (fieldsOf s) (requestOf packet) ≤ length buf)
+      → (endsEarly (fieldsOf s) st (requestOf packet) ≡ false → askedBy (requestOf packet .command) (fieldsOf s) (requestOf packet) .needed ≤ length buf)
       → Due s st packet buf 0
 
 -- ---- the work
@@ -93,9 +93,25 @@ pub data Moves : Command → Type 0 where
   by-write : Moves Write
   by-filemarks : Moves WriteFilemarks
 
--- the commands that store on the cartridge
+-- the commands that store on the cartridge: 0Ah, 10h
+abbrev pub storesOn : Command → Bool
+storesOn Unknown = false
+storesOn TestUnitReady = false
+storesOn Rewind = false
+storesOn RequestSense = false
+storesOn Read = false
+storesOn Write = true
+storesOn WriteFilemarks = true
+storesOn Space = false
+storesOn Inquiry = false
+storesOn ModeSelect = false
+storesOn ModeSense = false
+storesOn LoadUnload = false
+storesOn Locate = false
+storesOn ReadPosition = false
+
 abbrev pub stores : List ℕ → Bool
-stores packet = conditionsOf (requestOf packet .command) .stores
+stores packet = storesOn (requestOf packet .command)
 
 -- the commands that give bytes: 03h, 08h, 12h, 1Ah, 34h
 abbrev pub gives : Command → Bool

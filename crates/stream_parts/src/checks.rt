@@ -2,7 +2,7 @@
 ghost use mathlib.Core.Path.{_≡_};
 ghost use Prim.Native.Nat.{_*_, _^_, _<_, _≤_, min};
 ghost use Rattle.numbers.specs.Member.{isIn};
-ghost use Rattle.stream_parts.specs.Checks.{noCommand, always, settings, settingsList, onTape, storing, conditionsOf, isPending, badFieldOf, wrongLength, neededBy, tapeVerdictOf, verdictOf};
+ghost use Rattle.stream_parts.specs.Checks.{noCommand, always, settings, onTape, storing, askedBy, isHeld, foundFirst, verdictBy, verdictOf};
 ghost use Rattle.stream_parts.specs.States.{speeds, keepsRecordRules};
 use crate::replies::mode_length;
 use crate::requests::DEVICE_PAGE;
@@ -36,152 +36,85 @@ const HIGHEST_KEY: u8 = 15;
 
 const SHORT_BUFFER: u8 = 4;
 
-pub struct Conditions {
+// What a command asks before its work.
+pub struct Asked {
     pub known: bool, // one of the thirteen commands
     pub exempt: bool, // answered whatever attention is pending
-    pub listed: bool, // takes a list, whose length is a field
+    pub field: bool, // a field of the packet is bad
+    pub length: bool, // the length of its list is
     pub mounted: bool, // needs a loaded cartridge
     pub stores: bool, // stores on the cartridge
+    pub needed: usize, // bytes of room in the buffer
 }
 
-fn no_command() -> Conditions
+fn no_command() -> Asked
     ensures { λ r. ⌜ r ≡ noCommand ⌝ }
 {
-    Conditions {
+    Asked {
         known: false,
         exempt: false,
-        listed: false,
+        field: false,
+        length: false,
         mounted: false,
         stores: false,
+        needed: 0,
     }
 }
 
-fn always() -> Conditions
-    ensures { λ r. ⌜ r ≡ always ⌝ }
+fn always(needed: usize) -> Asked
+    ensures { λ r. ⌜ r ≡ always needed ⌝ }
 {
-    Conditions {
+    Asked {
         known: true,
         exempt: true,
-        listed: false,
+        field: false,
+        length: false,
         mounted: false,
         stores: false,
+        needed,
     }
 }
 
-fn settings() -> Conditions
-    ensures { λ r. ⌜ r ≡ settings ⌝ }
+fn settings(field: bool, length: bool, needed: usize) -> Asked
+    ensures { λ r. ⌜ r ≡ settings field length needed ⌝ }
 {
-    Conditions {
+    Asked {
         known: true,
         exempt: false,
-        listed: false,
+        field,
+        length,
         mounted: false,
         stores: false,
+        needed,
     }
 }
 
-fn settings_list() -> Conditions
-    ensures { λ r. ⌜ r ≡ settingsList ⌝ }
+fn on_tape(field: bool, needed: usize) -> Asked
+    ensures { λ r. ⌜ r ≡ onTape field needed ⌝ }
 {
-    Conditions {
+    Asked {
         known: true,
         exempt: false,
-        listed: true,
-        mounted: false,
-        stores: false,
-    }
-}
-
-fn on_tape() -> Conditions
-    ensures { λ r. ⌜ r ≡ onTape ⌝ }
-{
-    Conditions {
-        known: true,
-        exempt: false,
-        listed: false,
+        field,
+        length: false,
         mounted: true,
         stores: false,
+        needed,
     }
 }
 
-fn storing() -> Conditions
-    ensures { λ r. ⌜ r ≡ storing ⌝ }
+fn storing(field: bool, needed: usize) -> Asked
+    ensures { λ r. ⌜ r ≡ storing field needed ⌝ }
 {
-    Conditions {
+    Asked {
         known: true,
         exempt: false,
-        listed: false,
+        field,
+        length: false,
         mounted: true,
         stores: true,
+        needed,
     }
-}
-
-fn conditions_of(command: Command) -> Conditions
-    ensures { λ r. ⌜ r ≡ conditionsOf command ⌝ }
-{
-    match command {
-        Command::Unknown => no_command(),
-        Command::TestUnitReady => on_tape(),
-        Command::Rewind => on_tape(),
-        Command::RequestSense => always(),
-        Command::Read => on_tape(),
-        Command::Write => storing(),
-        Command::WriteFilemarks => storing(),
-        Command::Space => on_tape(),
-        Command::Inquiry => always(),
-        Command::ModeSelect => settings_list(),
-        Command::ModeSense => settings(),
-        Command::LoadUnload => settings(),
-        Command::Locate => on_tape(),
-        Command::ReadPosition => on_tape(),
-    }
-}
-
-fn is_pending(attention: Attention) -> bool
-    ensures { λ r. ⌜ r ≡ isPending attention ⌝ }
-{
-    match attention {
-        Attention::Nothing => false,
-        Attention::MediumChanged => true,
-        Attention::Reset => true,
-    }
-}
-
-fn bad_field(q: Request) -> bool
-    ensures { λ r. ⌜ r ≡ badFieldOf (q .command) q ⌝ }
-{
-    let command = q.command;
-    let fixed = q.flags % 2 == 1;
-    let code = q.flags % 8;
-    let page = q.page % 64;
-    let load = q.length % 2 == 1;
-    let eot = q.length / 4 % 2 == 1;
-    let partition = q.flags / 2 % 2 == 1;
-    match command {
-        Command::Unknown => false,
-        Command::TestUnitReady => false,
-        Command::Rewind => false,
-        Command::RequestSense => false,
-        Command::Read => !fixed,
-        Command::Write => !fixed,
-        Command::WriteFilemarks => false,
-        Command::Space => !((code == OVER_BLOCKS)
-            | (code == OVER_FILEMARKS)
-            | (code == TO_END_OF_DATA)),
-        Command::Inquiry => false,
-        Command::ModeSelect => false,
-        Command::ModeSense => !((page == HEADER_ALONE) | (page == DEVICE_PAGE)),
-        Command::LoadUnload => load & eot,
-        Command::Locate => partition,
-        Command::ReadPosition => false,
-    }
-}
-
-// 01: "list length (byte 4, a field) 0, 12 or 32"
-fn wrong_length(length: u8) -> bool
-    ensures { λ r. ⌜ r ≡ wrongLength length ⌝ }
-{
-    !((length == 0) | (length == SHORT_LIST) | (length == FULL_LIST))
 }
 
 pub fn least(a: usize, b: usize) -> usize
@@ -201,52 +134,100 @@ pub fn transfer_bytes(count: usize, size: usize) -> usize
     count * size
 }
 
-fn needed(h: Header, q: Request) -> usize
+fn asked_by(command: Command, h: Header, q: Request) -> Asked
     requires { ⌜ (q .count < 2 ^ 24) × (h .size ≤ 1024) ⌝ }
-    ensures { λ r. ⌜ r ≡ neededBy (q .command) h q ⌝ }
+    ensures { λ r. ⌜ r ≡ askedBy command h q ⌝ }
 {
-    let command = q.command;
-    let length = q.length as usize;
-    let mode = mode_length(q.page);
-    let span = transfer_bytes(q.count, h.size);
+    let code = q.flags % 8;
+    let page = q.page % 64;
+    let length = q.length;
+    let room = length as usize;
+    let fixed = q.flags % 2 == 1;
+    let partition = q.flags / 2 % 2 == 1;
+    let bad_code = !((code == OVER_BLOCKS) | (code == OVER_FILEMARKS) | (code == TO_END_OF_DATA));
+    let bad_length = !((length == 0) | (length == SHORT_LIST) | (length == FULL_LIST));
+    let bad_page = !((page == HEADER_ALONE) | (page == DEVICE_PAGE));
+    let load_with_eot = (length % 2 == 1) & (length / 4 % 2 == 1);
     match command {
-        Command::Unknown => 0,
-        Command::TestUnitReady => 0,
-        Command::Rewind => 0,
-        Command::RequestSense => least(length, SENSE_LENGTH),
-        Command::Read => span,
-        Command::Write => span,
-        Command::WriteFilemarks => 0,
-        Command::Space => 0,
-        Command::Inquiry => least(length, INQUIRY_LENGTH),
-        Command::ModeSelect => length,
-        Command::ModeSense => least(length, mode),
-        Command::LoadUnload => 0,
-        Command::Locate => 0,
-        Command::ReadPosition => POSITION_LENGTH,
+        Command::Unknown => no_command(),
+        Command::TestUnitReady => on_tape(false, 0),
+        Command::Rewind => on_tape(false, 0),
+        Command::RequestSense => always(least(room, SENSE_LENGTH)),
+        Command::Read => on_tape(!fixed, transfer_bytes(q.count, h.size)),
+        Command::Write => storing(!fixed, transfer_bytes(q.count, h.size)),
+        Command::WriteFilemarks => storing(false, 0),
+        Command::Space => on_tape(bad_code, 0),
+        Command::Inquiry => always(least(room, INQUIRY_LENGTH)),
+        Command::ModeSelect => settings(false, bad_length, room),
+        Command::ModeSense => settings(bad_page, false, least(room, mode_length(q.page))),
+        Command::LoadUnload => settings(load_with_eot, false, 0),
+        Command::Locate => on_tape(partition, 0),
+        Command::ReadPosition => on_tape(false, POSITION_LENGTH),
     }
 }
 
-// What is judged of the tape, once the packet itself is good.
-fn tape_verdict(h: Header, state: State, q: Request, room: usize) -> Verdict
-    requires { ⌜ (q .count < 2 ^ 24) × (h .size ≤ 1024) ⌝ }
-    ensures { λ r. ⌜ r ≡ tapeVerdictOf h state q room ⌝ }
+// 01: "A pending attention ends any packet but 03h and 12h"
+fn is_held(attention: Attention, exempt: bool) -> bool
+    ensures { λ r. ⌜ r ≡ isHeld attention exempt ⌝ }
 {
-    let command = q.command;
-    let conditions = conditions_of(command);
-    let absent = conditions.mounted & !state.loaded;
+    match attention {
+        Attention::Nothing => false,
+        Attention::MediumChanged => !exempt,
+        Attention::Reset => !exempt,
+    }
+}
+
+// The first that holds, in 01's order.
+fn found_first(
+    attention: Attention,
+    held: bool,
+    unknown: bool,
+    field: bool,
+    length: bool,
+    absent: bool,
+    kept: bool,
+    short: bool,
+) -> Verdict
+    ensures { λ r. ⌜ r ≡ foundFirst attention held unknown field length absent kept short ⌝ }
+{
+    if held {
+        return Verdict::Ends(unit_attention(attention));
+    }
+    if unknown {
+        return Verdict::Ends(invalid_opcode());
+    }
+    if field {
+        return Verdict::Ends(invalid_field());
+    }
+    if length {
+        return Verdict::Ends(wrong_list_length());
+    }
     if absent {
         return Verdict::Ends(not_loaded());
     }
-    let protected = conditions.stores & (h.protect == 1);
-    if protected {
+    if kept {
         return Verdict::Ends(write_protected());
     }
-    let short = room < needed(h, q);
     if short {
         return Verdict::Refuses(SHORT_BUFFER);
     }
     Verdict::Works
+}
+
+fn verdict_by(asked: Asked, protected: bool, state: State, room: usize) -> Verdict
+    ensures { λ r. ⌜ r ≡ verdictBy asked protected state room ⌝ }
+{
+    let attention = state.attention;
+    found_first(
+        attention,
+        is_held(attention, asked.exempt),
+        !asked.known,
+        asked.field,
+        asked.length,
+        asked.mounted & !state.loaded,
+        asked.stores & protected,
+        room < asked.needed,
+    )
 }
 
 pub fn verdict(h: Header, state: State, q: Request, room: usize) -> Verdict
@@ -254,25 +235,7 @@ pub fn verdict(h: Header, state: State, q: Request, room: usize) -> Verdict
     ensures { λ r. ⌜ r ≡ verdictOf h state q room ⌝ }
 {
     let command = q.command;
-    let attention = state.attention;
-    let conditions = conditions_of(command);
-    let held = is_pending(attention) & !conditions.exempt;
-    if held {
-        return Verdict::Ends(unit_attention(attention));
-    }
-    let unknown = !conditions.known;
-    if unknown {
-        return Verdict::Ends(invalid_opcode());
-    }
-    let field = bad_field(q);
-    if field {
-        return Verdict::Ends(invalid_field());
-    }
-    let length = conditions.listed & wrong_length(q.length);
-    if length {
-        return Verdict::Ends(wrong_list_length());
-    }
-    tape_verdict(h, state, q, room)
+    verdict_by(asked_by(command, h, q), h.protect == 1, state, room)
 }
 
 const SPEEDS: [u16; 5] = [0, 62, 125, 250, 500];

@@ -2,3 +2,4 @@ pub mod ReadLaws
 pub mod WriteLaws
 pub mod SpaceLaws
 pub mod EndLaws
+pub mod LaidLaws

@@ -1,4 +1,4 @@
--- WRITE and WRITE FILEMARK, one element at a time: what is left to do gives what the whole gives.
+-- Runs that lay elements, one at a time: what is left to do gives what the whole gives.
 -- Assumes nothing.
 use mathlib.Core.Path.{_≡_, refl}
 use mathlib.Core.Bool.{Bool, true, false}
@@ -10,133 +10,66 @@ use native.Mathlib.Omega.{arith}
 use borrow.Author.Tests.{le-leb, lt-leb, leb-true, leb-false}
 use lib.Dec.{leb}
 use Rattle.numbers.specs.Choice.{if_then_else_}
-use Rattle.numbers.specs.Over.{part}
-use Rattle.image.specs.Elements.{storeBlock, storeFilemark}
 use Rattle.transfer.specs.declared.Moved.{Moved}
 use Rattle.transfer.specs.declared.Stop.the-variants.{Full, AtEnd}
 use Rattle.transfer.specs.Moving.{halts}
-use Rattle.transfer.specs.Writing.{Writing, writes, writeFrom, markFrom}
+use Rattle.transfer.specs.Writing.{Writing, writes, layFrom}
 use Rattle.transfer.proofs.EndLaws.{Ended, ended-full, ended-short, ended-on, end-short}
-
-module _ (size kinds blocks end : ℕ) (src : List ℕ) (off p : ℕ) (s : List ℕ) (X : Writing) where
-  pub write-done : (left : ℕ) → writeFrom size kinds blocks end src left off p s ≡ X → left ≤ 0 → writes s (halts p 0 Full) ≡ X
-  unfolding writeFrom
-  write-done zero i h = i
-  write-done (suc left) i h = absurd (not-suc-le-zero h)
-
-  pub write-end : (left : ℕ) → writeFrom size kinds blocks end src left off p s ≡ X → 0 < left → end ≤ p → writes s (halts p left AtEnd) ≡ X
-  unfolding writeFrom
-  write-end zero i h e = absurd (not-suc-le-zero h)
-  write-end (suc left) i h e = rw (le-leb end p e) at i
-
-  pub write-next : (left : ℕ) (new : List ℕ) → writeFrom size kinds blocks end src left off p s ≡ X → 0 < left → p < end
-      → new ≡ storeBlock s size kinds blocks p (part src off size) → writeFrom size kinds blocks end src (left - 1) (off + size) (p + 1) new ≡ X
-  unfolding writeFrom
-  write-next zero new i h l e = absurd (not-suc-le-zero h)
-  write-next (suc left) new i h l e = rw (e, sub-one) (rw (lt-leb end p l) at i)
-
-module _ (kinds end p : ℕ) (s : List ℕ) (X : Writing) where
-  pub mark-done : (left : ℕ) → markFrom kinds end left p s ≡ X → left ≤ 0 → writes s (halts p 0 Full) ≡ X
-  unfolding markFrom
-  mark-done zero i h = i
-  mark-done (suc left) i h = absurd (not-suc-le-zero h)
-
-  pub mark-end : (left : ℕ) → markFrom kinds end left p s ≡ X → 0 < left → end ≤ p → writes s (halts p left AtEnd) ≡ X
-  unfolding markFrom
-  mark-end zero i h e = absurd (not-suc-le-zero h)
-  mark-end (suc left) i h e = rw (le-leb end p e) at i
-
-  pub mark-next : (left : ℕ) (new : List ℕ) → markFrom kinds end left p s ≡ X → 0 < left → p < end
-      → new ≡ storeFilemark s kinds p → markFrom kinds end (left - 1) (p + 1) new ≡ X
-  unfolding markFrom
-  mark-next zero new i h l e = absurd (not-suc-le-zero h)
-  mark-next (suc left) new i h l e = rw (e, sub-one) (rw (lt-leb end p l) at i)
-
--- ---- the whole run
 
 -- from place p on, n were asked for: each one done is one place
 record Advanced (n p : ℕ) (m : Moved) : Type 0 where
   ended : Ended n m
   passed : m .place + m .left ≡ p + n
 
-advanced-full : (p : ℕ) → Advanced 0 p (halts p 0 Full)
-advanced-full p = record { ended = ended-full p; passed = refl }
+module _ (lay : ℕ → ℕ → List ℕ → List ℕ) (size end : ℕ) where
+  module _ (off p : ℕ) (s : List ℕ) (X : Writing) where
+    pub lay-done : (left : ℕ) → layFrom lay size end left off p s ≡ X → left ≤ 0 → writes s (halts p 0 Full) ≡ X
+    unfolding layFrom
+    lay-done zero i h = i
+    lay-done (suc left) i h = absurd (not-suc-le-zero h)
 
-advanced-end : (n p : ℕ) → Advanced (suc n) p (halts p (suc n) AtEnd)
-advanced-end n p = record { ended = ended-short (suc n) p AtEnd (omega arith) end-short; passed = refl }
+    pub lay-end : (left : ℕ) → layFrom lay size end left off p s ≡ X → 0 < left → end ≤ p → writes s (halts p left AtEnd) ≡ X
+    unfolding layFrom
+    lay-end zero i h e = absurd (not-suc-le-zero h)
+    lay-end (suc left) i h e = rw (le-leb end p e) at i
 
-advanced-on : (n p : ℕ) (m : Moved) → Advanced n (p + 1) m → Advanced (suc n) p m
-advanced-on n p m a = record { ended = ended-on n (suc n) m (omega arith) (a .ended); passed = omega (arith, a .passed) }
+    pub lay-next : (left : ℕ) (new : List ℕ) → layFrom lay size end left off p s ≡ X → 0 < left → p < end → new ≡ lay off p s
+        → layFrom lay size end (left - 1) (off + size) (p + 1) new ≡ X
+    unfolding layFrom
+    lay-next zero new i h l e = absurd (not-suc-le-zero h)
+    lay-next (suc left) new i h l e = rw (e, sub-one) (rw (lt-leb end p l) at i)
 
-module _ (size kinds blocks end : ℕ) (src : List ℕ) where
-  -- how WRITE of n blocks goes, step by step, to its outcome
-  pub data WriteRun : ℕ → ℕ → ℕ → List ℕ → Writing → Type 0 where
-    full : (off p : ℕ) (s : List ℕ) → WriteRun 0 off p s (writes s (halts p 0 Full))
-    at-end : (n off p : ℕ) (s : List ℕ) → end ≤ p → WriteRun (suc n) off p s (writes s (halts p (suc n) AtEnd))
-    stores : (n off p : ℕ) (s : List ℕ) (X : Writing) → p < end
-        → WriteRun n (off + size) (p + 1) (storeBlock s size kinds blocks p (part src off size)) X → WriteRun (suc n) off p s X
+  -- ---- the whole run
 
-  one-write : (t : Bool) (n off p : ℕ) (s : List ℕ) (X : Writing) → leb end p ≡ t
-      → WriteRun n (off + size) (p + 1) (storeBlock s size kinds blocks p (part src off size)) X
-      → WriteRun (suc n) off p s (if t then writes s (halts p (suc n) AtEnd) else X)
-  one-write true n off p s X h r = at-end n off p s (leb-true end p h)
-  one-write false n off p s X h r = stores n off p s X (leb-false end p h) r
+  -- how a run of n elements goes, step by step, to its outcome
+  pub data LayRun : ℕ → ℕ → ℕ → List ℕ → Writing → Type 0 where
+    full : (off p : ℕ) (s : List ℕ) → LayRun 0 off p s (writes s (halts p 0 Full))
+    at-end : (n off p : ℕ) (s : List ℕ) → end ≤ p → LayRun (suc n) off p s (writes s (halts p (suc n) AtEnd))
+    lays : (n off p : ℕ) (s : List ℕ) (X : Writing) → p < end → LayRun n (off + size) (p + 1) (lay off p s) X → LayRun (suc n) off p s X
 
-  pub write-run : (n off p : ℕ) (s : List ℕ) → WriteRun n off p s (writeFrom size kinds blocks end src n off p s)
-  unfolding writeFrom
-  write-run zero off p s = full off p s
-  write-run (suc n) off p s =
-      one-write (leb end p) n off p s _ refl (write-run n (off + size) (p + 1) (storeBlock s size kinds blocks p (part src off size)))
+  one-lay : (t : Bool) (n off p : ℕ) (s : List ℕ) (X : Writing) → leb end p ≡ t → LayRun n (off + size) (p + 1) (lay off p s) X
+      → LayRun (suc n) off p s (if t then writes s (halts p (suc n) AtEnd) else X)
+  one-lay true n off p s X h r = at-end n off p s (leb-true end p h)
+  one-lay false n off p s X h r = lays n off p s X (leb-false end p h) r
 
-  write-ends : {n off p : ℕ} {s : List ℕ} {X : Writing} → WriteRun n off p s X → Advanced n p (X .moved)
-  write-ends (full off p s) = advanced-full p
-  write-ends (at-end n off p s h) = advanced-end n p
-  write-ends (stores n off p s X h r) = advanced-on n p (X .moved) (write-ends r)
+  pub lay-run : (n off p : ℕ) (s : List ℕ) → LayRun n off p s (layFrom lay size end n off p s)
+  unfolding layFrom
+  lay-run zero off p s = full off p s
+  lay-run (suc n) off p s = one-lay (leb end p) n off p s _ refl (lay-run n (off + size) (p + 1) (lay off p s))
+
+  lay-ends : {n off p : ℕ} {s : List ℕ} {X : Writing} → LayRun n off p s X → Advanced n p (X .moved)
+  lay-ends (full off p s) = record { ended = ended-full p; passed = refl }
+  lay-ends (at-end n off p s h) = record { ended = ended-short (suc n) p AtEnd (omega arith) end-short; passed = refl }
+  lay-ends (lays n off p s X h r) =
+      let a = lay-ends r in
+      record { ended = ended-on n (suc n) (X .moved) (omega arith) (a .ended); passed = omega (arith, a .passed) }
 
   module _ (n off p : ℕ) (s : List ℕ) where
-    write-advanced : Advanced n p (writeFrom size kinds blocks end src n off p s .moved)
-    write-advanced = write-ends (write-run n off p s)
+    pub lay-ended : Ended n (layFrom lay size end n off p s .moved)
+    lay-ended = lay-ends (lay-run n off p s) .ended
 
-    pub write-ended : Ended n (writeFrom size kinds blocks end src n off p s .moved)
-    write-ended = write-advanced .ended
+    pub lay-left : layFrom lay size end n off p s .moved .left ≤ n
+    lay-left = lay-ended .less
 
-    pub write-left : writeFrom size kinds blocks end src n off p s .moved .left ≤ n
-    write-left = write-ended .less
-
-    pub write-passed : writeFrom size kinds blocks end src n off p s .moved .place + writeFrom size kinds blocks end src n off p s .moved .left ≡ p + n
-    write-passed = write-advanced .passed
-
-module _ (kinds end : ℕ) where
-  -- how WRITE FILEMARK of n filemarks goes, step by step, to its outcome
-  pub data MarkRun : ℕ → ℕ → List ℕ → Writing → Type 0 where
-    full : (p : ℕ) (s : List ℕ) → MarkRun 0 p s (writes s (halts p 0 Full))
-    at-end : (n p : ℕ) (s : List ℕ) → end ≤ p → MarkRun (suc n) p s (writes s (halts p (suc n) AtEnd))
-    stores : (n p : ℕ) (s : List ℕ) (X : Writing) → p < end → MarkRun n (p + 1) (storeFilemark s kinds p) X → MarkRun (suc n) p s X
-
-  one-mark : (t : Bool) (n p : ℕ) (s : List ℕ) (X : Writing) → leb end p ≡ t → MarkRun n (p + 1) (storeFilemark s kinds p) X
-      → MarkRun (suc n) p s (if t then writes s (halts p (suc n) AtEnd) else X)
-  one-mark true n p s X h r = at-end n p s (leb-true end p h)
-  one-mark false n p s X h r = stores n p s X (leb-false end p h) r
-
-  pub mark-run : (n p : ℕ) (s : List ℕ) → MarkRun n p s (markFrom kinds end n p s)
-  unfolding markFrom
-  mark-run zero p s = full p s
-  mark-run (suc n) p s = one-mark (leb end p) n p s _ refl (mark-run n (p + 1) (storeFilemark s kinds p))
-
-  mark-ends : {n p : ℕ} {s : List ℕ} {X : Writing} → MarkRun n p s X → Advanced n p (X .moved)
-  mark-ends (full p s) = advanced-full p
-  mark-ends (at-end n p s h) = advanced-end n p
-  mark-ends (stores n p s X h r) = advanced-on n p (X .moved) (mark-ends r)
-
-  module _ (n p : ℕ) (s : List ℕ) where
-    mark-advanced : Advanced n p (markFrom kinds end n p s .moved)
-    mark-advanced = mark-ends (mark-run n p s)
-
-    pub mark-ended : Ended n (markFrom kinds end n p s .moved)
-    mark-ended = mark-advanced .ended
-
-    pub mark-left : markFrom kinds end n p s .moved .left ≤ n
-    mark-left = mark-ended .less
-
-    pub mark-passed : markFrom kinds end n p s .moved .place + markFrom kinds end n p s .moved .left ≡ p + n
-    mark-passed = mark-advanced .passed
+    pub lay-passed : layFrom lay size end n off p s .moved .place + layFrom lay size end n off p s .moved .left ≡ p + n
+    lay-passed = lay-ends (lay-run n off p s) .passed

@@ -1,10 +1,10 @@
--- 01, 0Ah WRITE and 10h WRITE FILEMARK, one element at a time: "At P = C: stop .. Else bytes and kind 1 stored, P + 1, U = new P."
+-- 01, 0Ah WRITE and 10h WRITE FILEMARK, one element at a time: "At P = C: stop .. Else bytes and kind 1 stored, P + 1". A run never touches the header.
 -- Assumes nothing.
 use Prim.Native.Nat.{ℕ, zero, suc, _+_}
 use mathlib.Core.List.{List}
 use Rattle.numbers.specs.Choice.{if_then_else_, _≤ᵇ_}
 use Rattle.numbers.specs.Over.{part}
-use Rattle.image.specs.Elements.{storeBlock, storeFilemark}
+use Rattle.image.specs.Elements.{layBlock, layMark}
 use Rattle.transfer.specs.declared.Moved.{Moved}
 use Rattle.transfer.specs.declared.Stop.the-variants.{Full, AtEnd}
 use Rattle.transfer.specs.Moving.{halts}
@@ -17,18 +17,24 @@ pub record Writing : Type 0 where
 abbrev pub writes : List ℕ → Moved → Writing
 writes s moved = record { image = s; moved = moved }
 
--- `left` blocks of src from offset off on, stored from place p on, up to the end of the tape
-module _ (size kinds blocks end : ℕ) (src : List ℕ) where
-  unfoldable pub writeFrom : ℕ → ℕ → ℕ → List ℕ → Writing
-  writeFrom zero off p s = writes s (halts p 0 Full)
-  writeFrom (suc left) off p s =
+-- `left` elements laid from place p on, up to the end, each with so many bytes from offset off on
+module _ (lay : ℕ → ℕ → List ℕ → List ℕ) (size end : ℕ) where
+  unfoldable pub layFrom : ℕ → ℕ → ℕ → List ℕ → Writing
+  layFrom zero off p s = writes s (halts p 0 Full)
+  layFrom (suc left) off p s =
       if end ≤ᵇ p then writes s (halts p (suc left) AtEnd) else
-      writeFrom left (off + size) (p + 1) (storeBlock s size kinds blocks p (part src off size))
+      layFrom left (off + size) (p + 1) (lay off p s)
+
+-- the block of src from offset off on, as element p
+abbrev pub blockOf : ℕ → ℕ → ℕ → List ℕ → ℕ → ℕ → List ℕ → List ℕ
+blockOf size kinds blocks src off p s = layBlock s size kinds blocks p (part src off size)
+
+abbrev pub writeFrom : ℕ → ℕ → ℕ → ℕ → List ℕ → ℕ → ℕ → ℕ → List ℕ → Writing
+writeFrom size kinds blocks end src left off p s = layFrom (blockOf size kinds blocks src) size end left off p s
 
 -- "N (bytes 2-4) filemarks by WRITE's rules, .. block bytes untouched"
-module _ (kinds end : ℕ) where
-  unfoldable pub markFrom : ℕ → ℕ → List ℕ → Writing
-  markFrom zero p s = writes s (halts p 0 Full)
-  markFrom (suc left) p s =
-      if end ≤ᵇ p then writes s (halts p (suc left) AtEnd) else
-      markFrom left (p + 1) (storeFilemark s kinds p)
+abbrev pub markOf : ℕ → ℕ → ℕ → List ℕ → List ℕ
+markOf kinds off p s = layMark s kinds p
+
+abbrev pub markFrom : ℕ → ℕ → ℕ → ℕ → List ℕ → Writing
+markFrom kinds end left p s = layFrom (markOf kinds) 0 end left 0 p s

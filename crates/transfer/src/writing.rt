@@ -5,8 +5,8 @@ ghost use lib.ListN.{length};
 ghost use Rattle.transfer.specs.Writing.{writes, writeFrom, markFrom};
 use crate::Moved;
 use crate::Stop;
-use image::elements::store_block;
-use image::elements::store_filemark;
+use image::elements::lay_block;
+use image::elements::lay_mark;
 
 pub fn write_blocks(
     image: &mut [u8],
@@ -18,7 +18,7 @@ pub fn write_blocks(
     n: usize,
     p: usize,
 ) -> Moved
-    requires { ⌜ ((size ≤ 1024) × (end ≤ 65535)) × ((32 ≤ kinds) × ((kinds + end ≤ blocks) × ((blocks + end * size ≤ length (now image)) × ((p ≤ end) × (n * size ≤ length (now src)))))) ⌝ }
+    requires { ⌜ ((size ≤ 1024) × (end ≤ 65535)) × ((kinds + end ≤ blocks) × ((blocks + end * size ≤ length (now image)) × ((p ≤ end) × (n * size ≤ length (now src))))) ⌝ }
     ensures { λ r. ⌜ writes (now (image .exit)) r ≡ writeFrom size kinds blocks end (now (src .entry)) n 0 p (now (image .entry)) ⌝ }
 {
     let mut left = n;
@@ -32,7 +32,7 @@ pub fn write_blocks(
                 stop: Stop::AtEnd,
             };
         }
-        store_block(image, size, kinds, blocks, at, src, off);
+        lay_block(image, size, kinds, blocks, at, src, off);
         off = off + size;
         at = at + 1;
         left = left - 1;
@@ -45,7 +45,7 @@ pub fn write_blocks(
 }
 
 pub fn write_filemarks(image: &mut [u8], kinds: usize, end: usize, n: usize, p: usize) -> Moved
-    requires { ⌜ (end ≤ 65535) × ((32 ≤ kinds) × ((kinds + end ≤ length (now image)) × (p ≤ end))) ⌝ }
+    requires { ⌜ (end ≤ 65535) × ((kinds + end ≤ length (now image)) × (p ≤ end)) ⌝ }
     ensures { λ r. ⌜ writes (now (image .exit)) r ≡ markFrom kinds end n p (now (image .entry)) ⌝ }
 {
     let mut left = n;
@@ -58,7 +58,7 @@ pub fn write_filemarks(image: &mut [u8], kinds: usize, end: usize, n: usize, p: 
                 stop: Stop::AtEnd,
             };
         }
-        store_filemark(image, kinds, at);
+        lay_mark(image, kinds, at);
         at = at + 1;
         left = left - 1;
     }

@@ -3,7 +3,7 @@
 use native.Mathlib.Omega.{arith}
 use Rattle.image.proofs.HeaderLaws.{sound}
 use Rattle.opcodes.specs.declared.Command.the-variants.{RequestSense, Read, Write, Inquiry, ModeSelect, ModeSense, ReadPosition}
-use Rattle.stream_parts.specs.Checks.{neededBy}
+use Rattle.stream_parts.specs.Checks.{askedBy}
 use Rattle.stream.proofs.WorkLaws.{needed-as, was-unknown, was-tested, was-rewound, was-sensed, was-read, was-written, was-marked, was-spaced, was-asked, was-selected, was-shown, was-loaded, was-located, was-placed}
 use borrow.Author.Needs.{needs}
 use Rattle.stream.proofs.work.work.Statement.{statement}
@@ -37,21 +37,21 @@ enum-told-4 : tie.Need-enum-told-4
 enum-told-4 c = search needs
 
 request-sense-requires : tie.Need-request-sense-requires
-unfolding neededBy
+unfolding askedBy
 request-sense-requires c κs = (c .before .before .before .before .before .before .before .before .pre .0 .1 .1, needed-as _ RequestSense _ _ _ (c .before .enum-told4 .given .1) (c .before .before .before .before .before .before .before .before .pre .1 .1))
 
 enum-told-5 : tie.Need-enum-told-5
 enum-told-5 c = search needs
 
 read-requires : tie.Need-read-requires
-unfolding neededBy
+unfolding askedBy
 read-requires c κs = (c .before .before .before .before .before .before .before .before .before .pre .0 .0, (c .before .before .before .before .before .before .before .before .before .pre .0 .1 .0, (c .before .before .before .before .before .before .before .before .before .pre .1 .0, needed-as _ Read _ _ _ (c .before .before .enum-told5 .given .1) (c .before .before .before .before .before .before .before .before .before .pre .1 .1))))
 
 enum-told-6 : tie.Need-enum-told-6
 enum-told-6 c = search needs
 
 write-requires : tie.Need-write-requires
-unfolding neededBy
+unfolding askedBy
 write-requires c κs = (c .before .before .before .before .before .before .before .before .before .pre .0 .0, (c .before .before .before .before .before .before .before .before .before .pre .0 .1 .0, (c .before .before .before .before .before .before .before .before .before .pre .1 .0, needed-as _ Write _ _ _ (c .before .before .enum-told6 .given .1) (c .before .before .before .before .before .before .before .before .before .pre .1 .1))))
 
 enum-told-7 : tie.Need-enum-told-7
@@ -70,21 +70,21 @@ enum-told-9 : tie.Need-enum-told-9
 enum-told-9 c = search needs
 
 inquiry-requires : tie.Need-inquiry-requires
-unfolding neededBy
+unfolding askedBy
 inquiry-requires c κs = needed-as _ Inquiry _ _ _ (c .before .enum-told9 .given .1) (c .before .before .before .before .before .before .before .before .pre .1 .1)
 
 enum-told-10 : tie.Need-enum-told-10
 enum-told-10 c = search needs
 
 mode-select-requires : tie.Need-mode-select-requires
-unfolding neededBy
+unfolding askedBy
 mode-select-requires c κs = needed-as _ ModeSelect _ _ _ (c .before .enum-told10 .given .1) (c .before .before .before .before .before .before .before .before .pre .1 .1)
 
 enum-told-11 : tie.Need-enum-told-11
 enum-told-11 c = search needs
 
 mode-sense-requires : tie.Need-mode-sense-requires
-unfolding neededBy
+unfolding askedBy
 mode-sense-requires c κs = needed-as _ ModeSense _ _ _ (c .before .enum-told11 .given .1) (c .before .before .before .before .before .before .before .before .pre .1 .1)
 
 enum-told-12 : tie.Need-enum-told-12
@@ -103,7 +103,7 @@ enum-told-14 : tie.Need-enum-told-14
 enum-told-14 c = search needs
 
 read-position-requires : tie.Need-read-position-requires
-unfolding neededBy
+unfolding askedBy
 read-position-requires c κs = let g = sound _ _ (c .before .before .before .before .before .before .before .before .pre .0 .0) in (omega arith, needed-as _ ReadPosition _ _ _ (c .before .enum-told14 .given .1) (c .before .before .before .before .before .before .before .before .pre .1 .1))
 
 returns : tie.Need-returns

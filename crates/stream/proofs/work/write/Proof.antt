@@ -10,11 +10,19 @@ use Rattle.stream.proofs.work.write.Tie as tie
 write-blocks-requires : tie.Need-write-blocks-requires
 write-blocks-requires c κs = let g = sound _ _ (c .before .before .before .pre .0) in omega arith
 
+record-to-requires : tie.Need-record-to-requires
+record-to-requires c κs = let g = sound _ _ (c .before .before .before .before .before .before .before .pre .0) in omega arith
+
 write-ending-requires : tie.Need-write-ending-requires
-write-ending-requires c κs = let g = sound _ _ (c .before .before .before .before .before .before .pre .0) in omega arith
+write-ending-requires c κs = let g = sound _ _ (c .before .before .before .before .before .before .before .before .before .before .pre .0) in omega arith
 
 end-moved-requires : tie.Need-end-moved-requires
-end-moved-requires c κs = let g = sound _ _ (c .before .before .before .before .before .before .before .pre .0) in let l = write-less _ (c .before .before .before .before .before .before .before .args .h) (c .before .before .before .before .before .before .before .args .state) _ _ _ _ (c .before .before .before .write-blocks .ensures) in omega arith
+end-moved-requires c κs =
+    let b = c .before .before .before .before .before .before .before in
+    let start = b .before .before .before .before in
+    let g = sound _ _ (start .pre .0) in
+    let l = write-less _ (start .args .h) (start .args .state) _ _ _ _ (b .write-blocks .ensures) in
+    omega arith
 
 same-length : tie.Need-same-length
 same-length c = search needs
@@ -25,4 +33,4 @@ returns c = search write-went
 pub write-spec : {M : Type 1} → statement M
 write-spec =
     tie.close
-    (tie.spec write-blocks-requires write-ending-requires end-moved-requires same-length returns)
+    (tie.spec write-blocks-requires record-to-requires write-ending-requires end-moved-requires same-length returns)

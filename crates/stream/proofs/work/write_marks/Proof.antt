@@ -10,11 +10,19 @@ use Rattle.stream.proofs.work.write_marks.Tie as tie
 write-filemarks-requires : tie.Need-write-filemarks-requires
 write-filemarks-requires c κs = let g = sound _ _ (c .before .before .before .pre .0) in omega arith
 
+record-to-requires : tie.Need-record-to-requires
+record-to-requires c κs = let g = sound _ _ (c .before .before .before .before .before .before .before .pre .0) in omega arith
+
 write-ending-requires : tie.Need-write-ending-requires
-write-ending-requires c κs = let g = sound _ _ (c .before .before .before .before .before .before .pre .0) in omega arith
+write-ending-requires c κs = let g = sound _ _ (c .before .before .before .before .before .before .before .before .before .before .pre .0) in omega arith
 
 end-moved-requires : tie.Need-end-moved-requires
-end-moved-requires c κs = let g = sound _ _ (c .before .before .before .before .before .before .before .pre .0) in let l = mark-less _ (c .before .before .before .before .before .before .before .args .h) (c .before .before .before .before .before .before .before .args .state) _ (c .before .before .before .before .before .before .before .args .buf .now) _ _ (c .before .before .before .write-filemarks .ensures) in omega arith
+end-moved-requires c κs =
+    let b = c .before .before .before .before .before .before .before in
+    let start = b .before .before .before .before in
+    let g = sound _ _ (start .pre .0) in
+    let l = mark-less _ (start .args .h) (start .args .state) _ (start .args .buf .now) _ _ (b .write-filemarks .ensures) in
+    omega arith
 
 same-length : tie.Need-same-length
 same-length c = search needs
@@ -25,9 +33,4 @@ returns c = search mark-went
 pub write-marks-spec : {M : Type 1} → statement M
 write-marks-spec =
     tie.close
-    (tie.spec
-    write-filemarks-requires
-    write-ending-requires
-    end-moved-requires
-    same-length
-    returns)
+    (tie.spec write-filemarks-requires record-to-requires write-ending-requires end-moved-requires same-length returns)

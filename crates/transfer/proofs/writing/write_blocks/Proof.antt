@@ -7,7 +7,7 @@ use native.Mathlib.Omega.{arith}
 use lib.ListN.{length}
 use Rattle.transfer.specs.Writing.{writeFrom}
 use Rattle.transfer.proofs.ReadLaws.{one-fewer}
-use Rattle.transfer.proofs.WriteLaws.{write-done, write-end, write-next}
+use Rattle.transfer.proofs.WriteLaws.{lay-done, lay-end, lay-next}
 use Rattle.transfer.proofs.writing.write_blocks.Statement.{statement}
 use Rattle.transfer.proofs.writing.write_blocks.Tie as tie
 
@@ -26,10 +26,10 @@ same-length : tie.Need-same-length Inv-loop μ-loop
 same-length c = omega arith
 
 returns : tie.Need-returns Inv-loop μ-loop
-returns c = search write-end
+returns c = search lay-end
 
-store-block-requires : tie.Need-store-block-requires Inv-loop μ-loop
-store-block-requires c κs =
+lay-block-requires : tie.Need-lay-block-requires Inv-loop μ-loop
+lay-block-requires c κs =
     let size = c .before .before .before .before .before .before .args .size in
     let d = one-fewer (c .before .before .before .loop .left) size (c .before .before .loop-test .taken) in
     let m = mul-le-mul-right size (c .before .if1 .left) in
@@ -52,13 +52,13 @@ loop-again c =
     let b = c .before .before .before .before .before in
     let l = b .before .loop in
     let d = one-fewer (l .left) (b .before .before .before .before .args .size) (b .loop-test .taken) in
-    (write-next _ _ _ _ _ _ _ _ _ _ _ (l .inv .0) (search) (search) (search), omega arith)
+    (lay-next _ _ _ _ _ _ _ _ _ (l .inv .0) (search) (search) (search), omega arith)
 
 same-length-2 : tie.Need-same-length-2 Inv-loop μ-loop
 same-length-2 c = omega arith
 
 returns-2 : tie.Need-returns-2 Inv-loop μ-loop
-returns-2 c = search write-done
+returns-2 c = search lay-done
 
 pub write-blocks-spec : {M : Type 1} → statement M
 write-blocks-spec =
@@ -69,7 +69,7 @@ write-blocks-spec =
     loop-holds
     same-length
     returns
-    store-block-requires
+    lay-block-requires
     add-off
     add-at
     sub-left

@@ -5,7 +5,7 @@ use Prim.Native.Nat.{_≤_}
 use native.Mathlib.Omega.{arith}
 use lib.ListN.{length}
 use Rattle.transfer.specs.Writing.{markFrom}
-use Rattle.transfer.proofs.WriteLaws.{mark-done, mark-end, mark-next}
+use Rattle.transfer.proofs.WriteLaws.{lay-done, lay-end, lay-next}
 use Rattle.transfer.proofs.writing.write_filemarks.Statement.{statement}
 use Rattle.transfer.proofs.writing.write_filemarks.Tie as tie
 
@@ -22,10 +22,10 @@ same-length : tie.Need-same-length Inv-loop μ-loop
 same-length c = omega arith
 
 returns : tie.Need-returns Inv-loop μ-loop
-returns c = search mark-end
+returns c = search lay-end
 
-store-filemark-requires : tie.Need-store-filemark-requires Inv-loop μ-loop
-store-filemark-requires c κs = omega arith
+lay-mark-requires : tie.Need-lay-mark-requires Inv-loop μ-loop
+lay-mark-requires c κs = omega arith
 
 add-at : tie.Need-add-at Inv-loop μ-loop
 add-at c = omega arith
@@ -37,13 +37,13 @@ loop-less : tie.Need-loop-less Inv-loop μ-loop
 loop-less c = omega arith
 
 loop-again : tie.Need-loop-again Inv-loop μ-loop
-loop-again c = (mark-next _ _ _ _ _ _ _ (c .before .before .before .before .before .before .loop .inv .0) (search) (search) (search), omega arith)
+loop-again c = (lay-next _ _ _ _ _ _ _ _ _ (c .before .before .before .before .before .before .loop .inv .0) (search) (search) (search), omega arith)
 
 same-length-2 : tie.Need-same-length-2 Inv-loop μ-loop
 same-length-2 c = omega arith
 
 returns-2 : tie.Need-returns-2 Inv-loop μ-loop
-returns-2 c = search mark-done
+returns-2 c = search lay-done
 
 pub write-filemarks-spec : {M : Type 1} → statement M
 write-filemarks-spec =
@@ -54,7 +54,7 @@ write-filemarks-spec =
     loop-holds
     same-length
     returns
-    store-filemark-requires
+    lay-mark-requires
     add-at
     sub-left
     loop-less

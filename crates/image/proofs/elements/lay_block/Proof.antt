@@ -1,9 +1,9 @@
--- `elements::store_block` meets its contract.
+-- `elements::lay_block` meets its contract.
 -- Assumes nothing.
-use Rattle.image.proofs.StoreLaws.{stored}
+use Rattle.image.proofs.StoreLaws.{laid-so}
 use borrow.Author.Needs.{needs}
-use Rattle.image.proofs.elements.store_block.Statement.{statement}
-use Rattle.image.proofs.elements.store_block.Tie as tie
+use Rattle.image.proofs.elements.lay_block.Statement.{statement}
+use Rattle.image.proofs.elements.lay_block.Tie as tie
 
 span-requires : tie.Need-span-requires
 span-requires c κs = search needs
@@ -35,17 +35,20 @@ part-copy-block-end-2 c = search needs
 copy-block-requires : tie.Need-copy-block-requires
 copy-block-requires c κs = search needs
 
-record-as-requires : tie.Need-record-as-requires
-record-as-requires c κs = search needs
+add-image : tie.Need-add-image
+add-image c = search needs
+
+slice-write-image : tie.Need-slice-write-image
+slice-write-image c = search needs
 
 same-length : tie.Need-same-length
 same-length c = search needs
 
 returns : tie.Need-returns
-returns c = search stored
+returns c = search laid-so
 
-pub store-block-spec : {M : Type 1} → statement M
-store-block-spec =
+pub lay-block-spec : {M : Type 1} → statement M
+lay-block-spec =
     tie.close
     (tie.spec
     span-requires
@@ -58,6 +61,7 @@ store-block-spec =
     part-copy-block-start-2
     part-copy-block-end-2
     copy-block-requires
-    record-as-requires
+    add-image
+    slice-write-image
     same-length
     returns)
