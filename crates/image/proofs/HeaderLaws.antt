@@ -16,6 +16,8 @@ use Rattle.numbers.proofs.RuleLaws.{split, each-of, pass}
 use Rattle.numbers.proofs.CountLaws.{count-by-bytes}
 use Rattle.image.specs.declared.header.Header.{Header}
 use Rattle.image.specs.declared.header.Judged.the-variants.{Good, Broken}
+use Rattle.image.specs.Elements.{kindAt, blockAt, holdsData}
+use Rattle.image.specs.Sameness.{IsBlock}
 use Rattle.image.specs.Header.{blockSizes, fieldsOf, fixedBytes, fieldRanges, placeRules, keepsHeaderRules, headerOf}
 
 -- ---- the ways of `header_of`
@@ -91,9 +93,14 @@ module _ (s : List ℕ) (h : Header) (good : headerOf s ≡ Good h) where
   unfolding headerOf
   fields-are = picked (keepsHeaderRules s) (fieldsOf s) h good .1
 
+  -- its image keeps the rules
+  pub keeps-of : keepsHeaderRules s ≡ true
+  unfolding headerOf
+  keeps-of = picked (keepsHeaderRules s) (fieldsOf s) h good .0
+
   keeps-all : ((allHold (fixedBytes s) && allHold (fieldRanges (fieldsOf s))) ≡ true) × (allHold (placeRules (fieldsOf s) (length s)) ≡ true)
-  unfolding headerOf keepsHeaderRules
-  keeps-all = split (allHold (fixedBytes s) && allHold (fieldRanges (fieldsOf s))) (allHold (placeRules (fieldsOf s) (length s))) (picked (keepsHeaderRules s) (fieldsOf s) h good .0)
+  unfolding keepsHeaderRules
+  keeps-all = split (allHold (fixedBytes s) && allHold (fieldRanges (fieldsOf s))) (allHold (placeRules (fieldsOf s) (length s))) keeps-of
 
   keeps-first : (allHold (fixedBytes s) ≡ true) × (allHold (fieldRanges (fieldsOf s)) ≡ true)
   keeps-first = split (allHold (fixedBytes s)) (allHold (fieldRanges (fieldsOf s))) (keeps-all .0)
@@ -126,6 +133,17 @@ module _ (s : List ℕ) (h : Header) (good : headerOf s ≡ Good h) where
         all-within = p .1 .1 .0;
         recorded-blocks = omega arith;
       }
+
+pub good-header : (s : List ℕ) → keepsHeaderRules s ≡ true → headerOf s ≡ Good (fieldsOf s)
+unfolding headerOf
+good-header s e = rw e
+
+-- a block of an image whose header is known
+pub is-block : (end : ℕ) (s : List ℕ) (h : Header) (i : ℕ) (bytes : List ℕ) → headerOf s ≡ Good h → i < end → holdsData (kindAt s (h .kinds) i) ≡ true
+    → blockAt s (h .size) (h .blocks) i ≡ bytes → IsBlock end s i bytes
+is-block end s h i bytes g l k b =
+    let f = fields-are s h g in
+    record { good = keeps-of s h g; before = l; holds = rw f k; same = rw f b }
 
 pub good-by : (s : List ℕ) (h : Header) → fieldsOf s ≡ h → Each (fixedBytes s) → Each (fieldRanges h) → Each (placeRules h (length s)) → headerOf s ≡ Good h
 unfolding headerOf keepsHeaderRules

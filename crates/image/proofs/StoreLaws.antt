@@ -22,6 +22,7 @@ use Rattle.image.specs.declared.header.Judged.the-variants.{Good}
 use Rattle.image.specs.declared.elements.Kind.the-variants.{Data, Filemark}
 use Rattle.image.specs.Header.{fieldsOf, headerOf, withRecorded}
 use Rattle.image.specs.Elements.{kindOf, kindAt, blockAt, layBlock, layMark, recordTo}
+use Rattle.image.specs.Sameness.{Outside}
 use Rattle.image.proofs.HeaderLaws.{sound, fields-are, each-fixed, each-range, each-place, good-by, header-same}
 
 -- the code's laying is the definition's
@@ -54,7 +55,7 @@ abbrev pub OffKind : Header → ℕ → ℕ → Type 0
 OffKind h i m = m ≡ h .kinds + i → ⊥
 
 abbrev pub OffBlock : Header → ℕ → ℕ → Type 0
-OffBlock h i m = (m < h .blocks + i * h .size) ⊎ (h .blocks + i * h .size + h .size ≤ m)
+OffBlock h i m = Outside (h .blocks + i * h .size) (h .size) m
 
 -- laid in two steps
 laid-both : (h : Header) (A B : ℕ → Type 0) (p : ℕ) (s t w : List ℕ) → OneLaid h A p s t → OneLaid h B p t w → OneLaid h (λ m. B m × A m) p s w
@@ -181,7 +182,7 @@ module _ (s : List ℕ) (h : Header) (good : headerOf s ≡ Good h) (u : ℕ) (w
   abbrev noted : List ℕ
   noted = putCount s 8 4 u
 
-  noted-kept : (m : ℕ) → (m < 8) ⊎ (12 ≤ m) → getD noted m 0 ≡ getD s m 0
+  noted-kept : (m : ℕ) → Outside 8 4 m → getD noted m 0 ≡ getD s m 0
   noted-kept m o = ⊎-elim (λ l. put-count-below s 8 4 u m l) (λ l. put-count-above s 8 4 u m l) o
 
   noted-number : (p k : ℕ) → (p + k ≤ 8) ⊎ (12 ≤ p) → countAt noted p k ≡ countAt s p k
@@ -259,7 +260,7 @@ module _ (s : List ℕ) (p place : ℕ) where
       by false = refl
 
   -- every byte but U's four
-  pub record-apart : (m : ℕ) → (m < 8) ⊎ (12 ≤ m) → getD (recordTo s p place) m 0 ≡ getD s m 0
+  pub record-apart : (m : ℕ) → Outside 8 4 m → getD (recordTo s p place) m 0 ≡ getD s m 0
   unfolding recordTo
   record-apart m o = by (ltb p place)
     where

@@ -1,6 +1,7 @@
 -- The elements of an image with its kind table at K and blocks of B bytes at D.
 -- Assumes nothing.
 use Prim.Native.Nat.{ℕ, _+_, _*_}
+use mathlib.Core.Bool.{Bool, true, false}
 use mathlib.Core.List.{List}
 use lib.ListN.{getD, set}
 use Rattle.numbers.specs.Choice.{if_then_else_, _≡ᵇ_, _<ᵇ_}
@@ -21,6 +22,17 @@ kindOf x =
     if x ≡ᵇ dataKind then Data else
     if x ≡ᵇ filemarkKind then Filemark else
     Unreadable
+
+-- the kinds that READ copies
+abbrev pub holdsData : Kind → Bool
+holdsData Data = true
+holdsData Filemark = false
+holdsData Unreadable = false
+
+abbrev pub isFilemark : Kind → Bool
+isFilemark Data = false
+isFilemark Filemark = true
+isFilemark Unreadable = false
 
 -- 01: "Element i has its kind at K + i and its bytes at D + i*B."
 unfoldable pub kindAt : List ℕ → ℕ → ℕ → Kind

@@ -3,7 +3,7 @@ ghost use mathlib.Core.Path.{_≡_};
 ghost use Prim.Native.Nat.{_+_, _*_, _<_, _≤_};
 ghost use lib.ListN.{length};
 ghost use Rattle.numbers.specs.Over.{part};
-ghost use Rattle.image.specs.Elements.{kindAt, layBlock, layMark, recordTo};
+ghost use Rattle.image.specs.Elements.{holdsData, isFilemark, kindAt, layBlock, layMark, recordTo};
 use crate::header::span;
 use numbers::copying::copy_block;
 use numbers::counts::put_count4;
@@ -28,6 +28,26 @@ pub fn kind_at(image: &[u8], kinds: usize, i: usize) -> Kind
         1 => Kind::Data,
         2 => Kind::Filemark,
         _ => Kind::Unreadable,
+    }
+}
+
+pub fn holds_data(kind: Kind) -> bool
+    ensures { λ r. ⌜ r ≡ holdsData kind ⌝ }
+{
+    match kind {
+        Kind::Data => true,
+        Kind::Filemark => false,
+        Kind::Unreadable => false,
+    }
+}
+
+pub fn is_filemark(kind: Kind) -> bool
+    ensures { λ r. ⌜ r ≡ isFilemark kind ⌝ }
+{
+    match kind {
+        Kind::Data => false,
+        Kind::Filemark => true,
+        Kind::Unreadable => false,
     }
 }
 

@@ -18,7 +18,8 @@ use Rattle.numbers.proofs.RuleLaws.{split}
 use Rattle.image.specs.declared.header.Header.{Header}
 use Rattle.image.specs.declared.header.Judged.the-variants.{Good as GoodHeader}
 use Rattle.image.specs.Header.{fieldsOf, keepsHeaderRules, headerOf, withRecorded}
-use Rattle.image.proofs.HeaderLaws.{sound}
+use Rattle.image.specs.Sameness.{SameElement, Outside}
+use Rattle.image.proofs.HeaderLaws.{good-header, sound}
 use Rattle.image.proofs.StoreLaws.{OffKind, recordedAfter, after-stored, after-reached, record-none, record-length, record-apart, record-header, record-kind, record-bytes}
 use Rattle.opcodes.specs.declared.Command.{Command}
 use Rattle.opcodes.specs.declared.Command.the-variants.{Unknown, TestUnitReady, Rewind, RequestSense, Read, Write, WriteFilemarks, Space, Inquiry, ModeSelect, ModeSense, LoadUnload, Locate, ReadPosition}
@@ -26,7 +27,7 @@ use Rattle.transfer.specs.declared.Moved.{Moved}
 use Rattle.transfer.specs.Reading.{readFrom}
 use Rattle.transfer.specs.Spacing.{blocksOn, blocksBack, marksOn, marksBack}
 use Rattle.transfer.specs.Writing.{Writing, blockOf, writeFrom, markOf, markFrom}
-use Rattle.transfer.proofs.ReadLaws.{read-run, read-left, read-place, read-length}
+use Rattle.transfer.proofs.ReadLaws.{read-run, read-left, read-place, read-length, copied, few-moved}
 use Rattle.transfer.proofs.WriteLaws.{lay-run, lay-left, lay-passed}
 use Rattle.transfer.proofs.LaidLaws.{Laid, Apart, marks-laid, blocks-laid}
 use Rattle.transfer.proofs.SpaceLaws.{blocks-on-ended, blocks-on-place, blocks-back-ended, blocks-back-place, marks-on-ended, marks-on-place, marks-back-ended, marks-back-place}
@@ -44,10 +45,9 @@ use Rattle.stream_parts.specs.Requests.{requestOf, spaceCode, isBack, devicePag
 use Rattle.stream_parts.specs.Senses.{wrongList, beyondData}
 use Rattle.stream_parts.specs.States.{speeds, keepsRecordRules, atPlace, withSpeed}
 use Rattle.stream.specs.Work.{moves, endingOf, readEnds, readWork, writeEnding, writeEnds, writeWork, markWork, spaceRun, spaceEnds, spaceWork, firstOf, replyEnds, replyWork, listSpeed, goodList, selectWork, loadWork, locateWork, workOf}
-use Rattle.stream_laws.specs.Words.{storesOn, stores, gives, numberOf, blocksOf, bytesOf, stateOf, SameElement, Outside, Untouched}
+use Rattle.stream_laws.specs.Words.{storesOn, stores, gives, numberOf, blocksOf, bytesOf, stateOf, Untouched}
 use Rattle.stream_laws.proofs.Endings.{senseOf, ends-is, Modest, ending-modest, write-modest, Ruly, ruly-of}
 use Rattle.stream_laws.proofs.Ways.{Way, cut, broken, unruly, short, ends-early, works, way}
-use Rattle.stream_laws.proofs.Runs.{copied, few-moved}
 
 -- the outcome of a packet that is not refused: the record it leaves is in rule, and its numbers go by what was asked for
 pub record Accepted (h : Header) (q : Request) (x : Outcome) : Type 0 where
@@ -68,13 +68,9 @@ pub record Leaves (s : List ℕ) (st : State) (q : Request) (buf : List ℕ) (st
   pub buf-beyond : (i : ℕ) → bytesOf x ≤ i → getD (x .buf) i 0 ≡ getD buf i 0
   pub no-gift : giving ≡ false → x .buf ≡ buf
   pub untouched : (m : ℕ) → Untouched (fieldsOf s) st x m → getD (x .image) m 0 ≡ getD s m 0
-  pub below : (j : ℕ) → j < st .position → SameElement s (x .image) j
+  pub below : (j : ℕ) → j < st .position → SameElement (fieldsOf s) s (x .image) j
   pub none-stored : blocksOf x ≡ 0 → x .image ≡ s
   pub no-store : storing ≡ false → x .image ≡ s
-
-pub good-header : (s : List ℕ) → keepsHeaderRules s ≡ true → headerOf s ≡ GoodHeader (fieldsOf s)
-unfolding headerOf
-good-header s e = rw e
 
 module _ (s : List ℕ) (st : State) (q : Request) (buf : List ℕ) (good : keepsHeaderRules s ≡ true) (rules : keepsRecordRules (fieldsOf s) st ≡ true) where
   abbrev h : Header

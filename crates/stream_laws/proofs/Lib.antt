@@ -5,6 +5,5 @@ pub mod Leaving
 pub mod PlateTable
 pub mod ReadingBack
 pub mod Refusals
-pub mod Runs
 pub mod Ways
 pub mod Working

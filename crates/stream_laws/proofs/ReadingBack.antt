@@ -10,18 +10,17 @@ use borrow.Author.Tests.{leb-true, leb-false, eqb-true, eqb-false}
 use lib.Dec.{leb, eqb}
 use lib.ListN.{length}
 use Rattle.numbers.specs.Over.{part}
-use Rattle.image.specs.declared.elements.Kind.the-variants.{Data}
 use Rattle.image.specs.declared.header.Header.{Header}
 use Rattle.image.specs.declared.header.Judged.the-variants.{Good}
-use Rattle.image.specs.Elements.{kindAt, blockAt, recordTo}
+use Rattle.image.specs.Elements.{holdsData, blockAt, recordTo}
 use Rattle.image.specs.Header.{fieldsOf, headerOf, withRecorded}
-use Rattle.image.proofs.HeaderLaws.{fields-are, sound}
+use Rattle.image.proofs.HeaderLaws.{fields-are, good-header, is-block, sound}
 use Rattle.image.proofs.StoreLaws.{recordedAfter, after-reached, record-header, record-kind, record-bytes}
 use Rattle.opcodes.specs.declared.Command.{Command}
 use Rattle.opcodes.specs.declared.Command.the-variants.{Read, Write}
 use Rattle.transfer.specs.Reading.{readFrom}
 use Rattle.transfer.specs.Writing.{blockOf, writeFrom}
-use Rattle.transfer.proofs.ReadLaws.{read-run, read-left, read-block}
+use Rattle.transfer.proofs.ReadLaws.{read-run, read-left, read-block, data-moved, read-first}
 use Rattle.transfer.proofs.LaidLaws.{blocks-laid, blocks-read-back}
 use Rattle.transfer.proofs.WriteLaws.{lay-run, lay-left, lay-passed}
 use Rattle.stream_parts.specs.declared.requests.Request.{Request}
@@ -31,41 +30,32 @@ use Rattle.stream_parts.specs.Checks.{askedBy}
 use Rattle.stream.specs.Packet.{packetStep}
 use Rattle.stream_parts.specs.Requests.{requestOf}
 use Rattle.stream.specs.Work.{workOf, readWork, readEnds, writeWork, writeEnds}
-use Rattle.stream_laws.specs.Words.{numberOf, blocksOf, Begins, stores, gives, IsBlock}
+use Rattle.stream_laws.specs.Words.{numberOf, blocksOf, Begins, stores, gives, IsRecorded}
 use Rattle.stream_laws.specs.History.{StoresUpTo, Later, at-once, asked, replaced}
 use Rattle.stream_laws.specs.Demands.{ReadsBack, ReadGives, ReadMoves}
 use Rattle.stream_laws.proofs.Endings.{ends-is, ruly-of}
-use Rattle.stream_laws.proofs.Keeping.{keeps-of}
-use Rattle.stream_laws.proofs.Leaving.{Leaves, accepted-leaves, good-header}
+use Rattle.stream_laws.proofs.Leaving.{Leaves, accepted-leaves}
 use Rattle.stream_laws.proofs.Refusals.{refused-keeps}
-use Rattle.stream_laws.proofs.Runs.{data-moved, read-first}
 use Rattle.stream_laws.proofs.Ways.{Passes}
 use Rattle.stream_laws.proofs.Working.{begins-passes, begins-room, begins-work}
 
--- a block of an image whose header is known
-is-block : (s : List ℕ) (h : Header) (i : ℕ) (bytes : List ℕ) → headerOf s ≡ Good h → i < h .recorded → kindAt s (h .kinds) i ≡ Data
-    → blockAt s (h .size) (h .blocks) i ≡ bytes → IsBlock s i bytes
-is-block s h i bytes g l k b =
-    let f = fields-are s h g in
-    record { good = keeps-of s h g; recorded = rw f l; kind = rw f k; same = rw f b }
-
 -- ---- one packet
 
-module _ (i : ℕ) (bytes : List ℕ) (s : List ℕ) (st : State) (packet buf : List ℕ) (block : IsBlock s i bytes)
+module _ (i : ℕ) (bytes : List ℕ) (s : List ℕ) (st : State) (packet buf : List ℕ) (block : IsRecorded s i bytes)
     (spared : StoresUpTo i s st packet buf → ⊥) where
   abbrev x : Step
   x = packetStep s st packet buf
 
-  same-image : x .image ≡ s → IsBlock (x .image) i bytes
+  same-image : x .image ≡ s → IsRecorded (x .image) i bytes
   same-image e = rw e block
 
-  accepted-block : numberOf x ≡ 0 → IsBlock (x .image) i bytes
+  accepted-block : numberOf x ≡ 0 → IsRecorded (x .image) i bytes
   accepted-block e = by (stores packet) (eqb (blocksOf x) 0) (leb (st .position) i) refl refl refl
     where
       w : Leaves s st (requestOf packet) buf (stores packet) (gives (requestOf packet .command)) x
       w = accepted-leaves s st packet buf e
 
-      by : (a b c : Bool) → stores packet ≡ a → eqb (blocksOf x) 0 ≡ b → leb (st .position) i ≡ c → IsBlock (x .image) i bytes
+      by : (a b c : Bool) → stores packet ≡ a → eqb (blocksOf x) 0 ≡ b → leb (st .position) i ≡ c → IsRecorded (x .image) i bytes
       by false b c p q r = same-image (w .no-store p)
       by true true c p q r = same-image (w .none-stored (eqb-true _ _ q))
       by true false true p q r =
@@ -75,18 +65,19 @@ module _ (i : ℕ) (bytes : List ℕ) (s : List ℕ) (st : State) (packet buf : 
       by true false false p q r =
           let l = leb-false _ _ r in
           let k = w .below i l in
-          is-block (x .image) (withRecorded (fieldsOf s) (w .u)) i bytes (w .header) (omega (arith, w .reached)) (k .kind ∙ block .kind) (k .bytes ∙ block .same)
+          is-block _ (x .image) (withRecorded (fieldsOf s) (w .u)) i bytes (w .header) (rw (fields-are _ _ (w .header)) (omega (arith, w .reached)))
+          (ap holdsData (k .kind) ∙ block .holds) (k .bytes ∙ block .same)
 
-  still-block : IsBlock (x .image) i bytes
+  still-block : IsRecorded (x .image) i bytes
   still-block = by (eqb (numberOf x) 0) refl
     where
-      by : (a : Bool) → eqb (numberOf x) 0 ≡ a → IsBlock (x .image) i bytes
+      by : (a : Bool) → eqb (numberOf x) 0 ≡ a → IsRecorded (x .image) i bytes
       by true e = accepted-block (eqb-true _ _ e)
       by false e = same-image (refused-keeps s st packet buf (eqb-false _ _ e) .image-kept)
 
 -- ---- a whole history
 
-later-block : (i : ℕ) (bytes : List ℕ) {s s' : List ℕ} {st st' : State} → Later i s st s' st' → IsBlock s i bytes → IsBlock s' i bytes
+later-block : (i : ℕ) (bytes : List ℕ) {s s' : List ℕ} {st st' : State} → Later i s st s' st' → IsRecorded s i bytes → IsRecorded s' i bytes
 later-block i bytes at-once b = b
 later-block i bytes (asked packet buf l f) b = still-block i bytes _ _ packet buf (later-block i bytes l b) f
 later-block i bytes (replaced st'' l) b = later-block i bytes l b
@@ -99,7 +90,7 @@ module _ (s : List ℕ) (st : State) (q : Request) (buf : List ℕ) (good : head
   h = fieldsOf s
 
   written : (j : ℕ) → j < blocksOf (writeWork s h st (q .count) buf)
-      → IsBlock (writeWork s h st (q .count) buf .image) (st .position + j) (part buf (j * h .size) (h .size))
+      → IsRecorded (writeWork s h st (q .count) buf .image) (st .position + j) (part buf (j * h .size) (h .size))
   unfolding writeWork writeEnds
   written j b =
       let n = q .count in
@@ -114,21 +105,22 @@ module _ (s : List ℕ) (st : State) (q : Request) (buf : List ℕ) (good : head
       let z = blocks-read-back h (h .capacity) (le-refl (h .capacity)) buf run good (omega arith) j (omega arith) in
       let c = after-reached (h .recorded) (st .position) to (omega arith) in
       let b = w .reached in
-      is-block (recordTo (X .image) (st .position) to) (withRecorded h (recordedAfter (h .recorded) (st .position) to)) (st .position + j) _
-      (record-header (X .image) h (w .header) (st .position) to b) (omega arith)
-      (record-kind (X .image) h (w .header) (st .position) to b (st .position + j) ∙ z .0)
+      let e = record-header (X .image) h (w .header) (st .position) to b in
+      is-block _ (recordTo (X .image) (st .position) to) (withRecorded h (recordedAfter (h .recorded) (st .position) to)) (st .position + j) _
+      e (rw (fields-are _ _ e) (omega arith))
+      (ap holdsData (record-kind (X .image) h (w .header) (st .position) to b (st .position + j) ∙ z .0))
       (record-bytes (X .image) h (w .header) (st .position) to b (st .position + j) (omega arith) ∙ rw zero-add at (z .1))
 
-  moves-first : (bytes : List ℕ) → IsBlock s (st .position) bytes → 1 ≤ q .count → 1 ≤ blocksOf (readWork s h st (q .count) buf)
+  moves-first : (bytes : List ℕ) → IsRecorded s (st .position) bytes → 1 ≤ q .count → 1 ≤ blocksOf (readWork s h st (q .count) buf)
   unfolding readWork readEnds
   moves-first bytes b l =
       let n = q .count in
       let e : n ≡ suc (n - 1) = omega arith in
-      let f = read-first s (h .size) (h .kinds) (h .blocks) (h .recorded) (n - 1) 0 (st .position) buf (b .recorded) (b .kind) in
+      let f = read-first s (h .size) (h .kinds) (h .blocks) (h .recorded) (n - 1) 0 (st .position) buf (b .before) (b .holds) in
       rw ends-is (omega (arith, rw (← e) at f))
 
   copied-whole : (k : ℕ) → k < blocksOf (readWork s h st (q .count) buf)
-      → IsBlock s (st .position + k) (part (readWork s h st (q .count) buf .buf) (k * h .size) (h .size))
+      → IsRecorded s (st .position + k) (part (readWork s h st (q .count) buf .buf) (k * h .size) (h .size))
   unfolding readWork readEnds
   copied-whole k l =
       let n = q .count in
@@ -137,7 +129,7 @@ module _ (s : List ℕ) (st : State) (q : Request) (buf : List ℕ) (good : head
       let m : k + readFrom s (h .size) (h .kinds) (h .blocks) (h .recorded) n 0 (st .position) buf .moved .left < n = omega (arith, rw ends-is at l) in
       let d = data-moved s (h .size) (h .kinds) (h .blocks) (h .recorded) (read-run s (h .size) (h .kinds) (h .blocks) (h .recorded) n 0 (st .position) buf) k m in
       let z = read-block s (h .size) (h .kinds) (h .blocks) (h .recorded) n 0 (st .position) buf (omega arith) (g .recorded-blocks) k m in
-      is-block s h (st .position + k) _ good (d .0) (d .1) (sym (rw zero-add at z))
+      is-block _ s h (st .position + k) _ good (d .0) (d .1) (sym (rw zero-add at z))
 
 module _ (s : List ℕ) (st : State) (packet buf : List ℕ) (b : Begins s st packet buf) where
   abbrev p : Passes s st packet buf
@@ -166,7 +158,7 @@ read-moves s st packet buf bytes b c =
 
 block-stored : (s : List ℕ) (st : State) (packet buf : List ℕ) → Begins s st packet buf → requestOf packet .command ≡ Write
     → (j : ℕ) → j < blocksOf (packetStep s st packet buf)
-    → IsBlock (packetStep s st packet buf .image) (st .position + j) (part buf (j * fieldsOf s .size) (fieldsOf s .size))
+    → IsRecorded (packetStep s st packet buf .image) (st .position + j) (part buf (j * fieldsOf s .size) (fieldsOf s .size))
 unfolding workOf askedBy
 block-stored s st packet buf b c j n =
     let p = begins-passes s st packet buf b in

@@ -16,7 +16,7 @@ use Rattle.stream.specs.Packet.{packetLength, packetStep}
 use Rattle.stream_parts.specs.Requests.{requestOf}
 use Rattle.stream_parts.specs.States.{freshState, changedState, keepsRecordRules}
 use Rattle.stream_laws.specs.Plates.{every, plates}
-use Rattle.stream_laws.specs.Words.{numberOf, blocksOf, stateOf, residueOf, Refusal, Due, Begins, Moves, IsBlock, EveryReadGives, Kept, Alike}
+use Rattle.stream_laws.specs.Words.{numberOf, blocksOf, stateOf, residueOf, Refusal, Due, Begins, Moves, IsRecorded, EveryReadGives, Kept, AlikeBelowU}
 use Rattle.stream_laws.specs.History.{Later}
 
 -- "1: packet is not 12 bytes", whatever the image, the record and the buffer; nothing changes.
@@ -66,22 +66,22 @@ BeyondKept =
 
 -- "Kinds at U and above mean nothing.": images that are alike below U are answered alike, and stay alike.
 pub record BeyondIgnored : Type 0 where
-  pub outcome : (s t : List ℕ) (st : State) (packet buf : List ℕ) → Alike s t → packetStep t st packet buf .out ≡ packetStep s st packet buf .out
-  pub given : (s t : List ℕ) (st : State) (packet buf : List ℕ) → Alike s t → packetStep t st packet buf .buf ≡ packetStep s st packet buf .buf
-  pub left : (s t : List ℕ) (st : State) (packet buf : List ℕ) → Alike s t → Alike (packetStep s st packet buf .image) (packetStep t st packet buf .image)
+  pub outcome : (s t : List ℕ) (st : State) (packet buf : List ℕ) → AlikeBelowU s t → packetStep t st packet buf .out ≡ packetStep s st packet buf .out
+  pub given : (s t : List ℕ) (st : State) (packet buf : List ℕ) → AlikeBelowU s t → packetStep t st packet buf .buf ≡ packetStep s st packet buf .buf
+  pub left : (s t : List ℕ) (st : State) (packet buf : List ℕ) → AlikeBelowU s t → AlikeBelowU (packetStep s st packet buf .image) (packetStep t st packet buf .image)
 
 -- "Data: copied, P + 1": each block that a READ moves is a data block of the image, and stands whole in the buffer.
 abbrev pub ReadGives : Type 0
 ReadGives =
     (s : List ℕ) (st : State) (packet buf : List ℕ) → Begins s st packet buf → requestOf packet .command ≡ Read
     → (k : ℕ) → k < blocksOf (packetStep s st packet buf)
-    → IsBlock s (st .position + k) (part (packetStep s st packet buf .buf) (k * fieldsOf s .size) (fieldsOf s .size))
+    → IsRecorded s (st .position + k) (part (packetStep s st packet buf .buf) (k * fieldsOf s .size) (fieldsOf s .size))
 
 -- The same from the other side: a READ of one block or more that begins at a data block moves it.
 abbrev pub ReadMoves : Type 0
 ReadMoves =
     (s : List ℕ) (st : State) (packet buf bytes : List ℕ) → Begins s st packet buf → requestOf packet .command ≡ Read
-    → IsBlock s (st .position) bytes → 1 ≤ requestOf packet .count
+    → IsRecorded s (st .position) bytes → 1 ≤ requestOf packet .count
     → 1 ≤ blocksOf (packetStep s st packet buf)
 
 -- "A written block reads back the same until something is stored at or before its place": block j of a WRITE is element P + j with its bytes through
@@ -91,7 +91,7 @@ ReadsBack =
     (s : List ℕ) (st : State) (packet buf : List ℕ) → Begins s st packet buf → requestOf packet .command ≡ Write
     → (j : ℕ) → j < blocksOf (packetStep s st packet buf)
     → (s' : List ℕ) (st' : State) → Later (st .position + j) (packetStep s st packet buf .image) (stateOf (packetStep s st packet buf)) s' st'
-    → IsBlock s' (st .position + j) (part buf (j * fieldsOf s .size) (fieldsOf s .size))
+    → IsRecorded s' (st .position + j) (part buf (j * fieldsOf s .size) (fieldsOf s .size))
     × EveryReadGives s' st' (st .position + j) (part buf (j * fieldsOf s .size) (fieldsOf s .size))
 
 -- 01: "A small set is proved together as one table (*)"

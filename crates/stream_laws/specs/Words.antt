@@ -3,15 +3,14 @@
 use Prim.Native.Nat.{ℕ, _+_, _*_, _≤_, _<_}
 use mathlib.Core.Bool.{Bool, true, false, not, _&&_, _||_}
 use mathlib.Core.List.{List}
-use mathlib.Core.Logic.{_⊎_}
 use mathlib.Core.Path.{_≡_}
 use lib.ListN.{length, getD}
 use Rattle.numbers.specs.Choice.{if_then_else_}
 use Rattle.numbers.specs.Over.{part}
-use Rattle.image.specs.declared.elements.Kind.the-variants.{Data}
 use Rattle.image.specs.declared.header.Header.{Header}
-use Rattle.image.specs.Elements.{kindAt, blockAt, recordedField}
-use Rattle.image.specs.Header.{fieldsOf, headerOf, keepsHeaderRules, brokenImage}
+use Rattle.image.specs.Elements.{recordedField}
+use Rattle.image.specs.Header.{fieldsOf, keepsHeaderRules, brokenImage}
+use Rattle.image.specs.Sameness.{IsBlock, SameElement, Alike, Outside}
 use Rattle.opcodes.specs.declared.Command.{Command}
 use Rattle.opcodes.specs.declared.Command.the-variants.{Unknown, TestUnitReady, Rewind, RequestSense, Read, Write, WriteFilemarks, Space, Inquiry, ModeSelect, ModeSense, LoadUnload, Locate, ReadPosition}
 use Rattle.stream_parts.specs.declared.requests.Request.{Request}
@@ -133,11 +132,12 @@ gives ReadPosition = true
 -- ---- elements of an image
 
 -- element i is recorded data with these bytes
-pub record IsBlock (s : List ℕ) (i : ℕ) (bytes : List ℕ) : Type 0 where
-  pub good : keepsHeaderRules s ≡ true
-  pub recorded : i < fieldsOf s .recorded
-  pub kind : kindAt s (fieldsOf s .kinds) i ≡ Data
-  pub same : blockAt s (fieldsOf s .size) (fieldsOf s .blocks) i ≡ bytes
+abbrev pub IsRecorded : List ℕ → ℕ → List ℕ → Type 0
+IsRecorded s i bytes = IsBlock (fieldsOf s .recorded) s i bytes
+
+-- the images s and t have one header, and elements that read the same below U
+abbrev pub AlikeBelowU : List ℕ → List ℕ → Type 0
+AlikeBelowU s t = Alike (fieldsOf s .recorded) s t
 
 -- a READ that moves element i, as its block k, gives these bytes
 abbrev pub EveryReadGives : List ℕ → State → ℕ → List ℕ → Type 0
@@ -145,25 +145,6 @@ EveryReadGives s st i bytes =
     (packet buf : List ℕ) → Begins s st packet buf → requestOf packet .command ≡ Read
     → (k : ℕ) → k < blocksOf (packetStep s st packet buf) → st .position + k ≡ i
     → part (packetStep s st packet buf .buf) (k * fieldsOf s .size) (fieldsOf s .size) ≡ bytes
-
--- element i has the same kind and bytes in the image t as in s
-pub record SameElement (s t : List ℕ) (i : ℕ) : Type 0 where
-  pub kind : kindAt t (fieldsOf s .kinds) i ≡ kindAt s (fieldsOf s .kinds) i
-  pub bytes : blockAt t (fieldsOf s .size) (fieldsOf s .blocks) i ≡ blockAt s (fieldsOf s .size) (fieldsOf s .blocks) i
-
--- element i reads the same in the image t as in s: it has the same kind and, where it is data, the same bytes
-pub record ReadsSame (h : Header) (s t : List ℕ) (i : ℕ) : Type 0 where
-  pub kind : kindAt t (h .kinds) i ≡ kindAt s (h .kinds) i
-  pub bytes : kindAt s (h .kinds) i ≡ Data → blockAt t (h .size) (h .blocks) i ≡ blockAt s (h .size) (h .blocks) i
-
--- the images s and t have one header, and elements that read the same below U
-pub record Alike (s t : List ℕ) : Type 0 where
-  pub header : headerOf t ≡ headerOf s
-  pub elements : (i : ℕ) → i < fieldsOf s .recorded → ReadsSame (fieldsOf s) s t i
-
--- byte m of an image is outside the n bytes from place a on
-abbrev pub Outside : ℕ → ℕ → ℕ → Type 0
-Outside a n m = (m < a) ⊎ (a + n ≤ m)
 
 -- byte m is none of U's four, none of the kinds of the elements moved, none of the block bytes taken
 pub record Untouched (h : Header) (st : State) (x : Step) (m : ℕ) : Type 0 where
@@ -184,4 +165,4 @@ pub record Kept (s : List ℕ) (st : State) (packet buf : List ℕ) (x : Step) :
   -- "U = new P" where elements were stored
   pub recorded-new : stores packet ≡ true → 1 ≤ blocksOf x → fieldsOf (x .image) .recorded ≡ stateOf x .position
   -- the elements before the position are as they were
-  pub elements-before : (i : ℕ) → i < st .position → SameElement s (x .image) i
+  pub elements-before : (i : ℕ) → i < st .position → SameElement (fieldsOf s) s (x .image) i

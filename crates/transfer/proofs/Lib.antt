@@ -3,3 +3,4 @@ pub mod WriteLaws
 pub mod SpaceLaws
 pub mod EndLaws
 pub mod LaidLaws
+pub mod SameLaws

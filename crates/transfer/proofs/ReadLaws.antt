@@ -13,15 +13,15 @@ use borrow.Rule.Slice.PartMut.{midOf, putMid}
 use lib.ListN.{length, getD, length-take}
 use Rattle.numbers.specs.Choice.{if_then_else_}
 use Rattle.numbers.specs.Over.{over, part}
-use Rattle.numbers.proofs.OverLaws.{part-length, part-same, over-length, over-below, over-part, copied-over}
+use Rattle.numbers.proofs.OverLaws.{part-length, part-same, over-length, over-below, over-above, over-part, copied-over}
 use Rattle.image.specs.declared.elements.Kind.{Kind}
-use Rattle.image.specs.declared.elements.Kind.the-variants.{Data, Filemark, Unreadable}
-use Rattle.image.specs.Elements.{kindAt, blockAt}
+use Rattle.image.specs.Elements.{holdsData, kindAt, blockAt}
 use Rattle.transfer.specs.declared.Moved.{Moved}
-use Rattle.transfer.specs.declared.Stop.the-variants.{Full, AtFilemark, AtBadBlock, AtEnd}
+use Rattle.transfer.specs.declared.Stop.{Stop}
+use Rattle.transfer.specs.declared.Stop.the-variants.{Full, AtEnd}
 use Rattle.transfer.specs.Moving.{halts}
-use Rattle.transfer.specs.Reading.{Reading, reads, byKind, readFrom}
-use Rattle.transfer.proofs.EndLaws.{Ended, ended-full, ended-short, ended-on, filemark-short, bad-short, end-short}
+use Rattle.transfer.specs.Reading.{Reading, reads, stopAt, readFrom}
+use Rattle.transfer.proofs.EndLaws.{Ended, ended-full, ended-short, ended-on, stop-short, end-short}
 
 -- the bytes of one block fewer
 pub one-fewer : (n size : ℕ) → 0 < n → n * size ≡ (n - 1) * size + size
@@ -39,27 +39,21 @@ module _ (s : List ℕ) (size kinds blocks end off p : ℕ) (buf : List ℕ) (X 
   read-end zero m i h e q = absurd (not-suc-le-zero h)
   read-end (suc left) m i h e q = rw q (rw (le-leb end p e) at i)
 
-  pub read-mark : (left : ℕ) (m : Moved) (kind : Kind) → readFrom s size kinds blocks end left off p buf ≡ X → 0 < left → p < end
-      → kind ≡ kindAt s kinds p → kind ≡ Filemark → m ≡ halts (p + 1) left AtFilemark → reads buf m ≡ X
+  pub read-stop : (left : ℕ) (m : Moved) (kind : Kind) (b : Bool) (stop : Stop) → readFrom s size kinds blocks end left off p buf ≡ X → 0 < left → p < end
+      → kind ≡ kindAt s kinds p → b ≡ holdsData kind → b ≡ false → stop ≡ stopAt kind → m ≡ halts (p + 1) left stop → reads buf m ≡ X
   unfolding readFrom
-  read-mark zero m kind i h l e k q = absurd (not-suc-le-zero h)
-  read-mark (suc left) m kind i h l e k q = rw q (rw (lt-leb end p l, ← e, k) at i)
-
-  pub read-bad : (left : ℕ) (m : Moved) (kind : Kind) → readFrom s size kinds blocks end left off p buf ≡ X → 0 < left → p < end
-      → kind ≡ kindAt s kinds p → kind ≡ Unreadable → m ≡ halts (p + 1) left AtBadBlock → reads buf m ≡ X
-  unfolding readFrom
-  read-bad zero m kind i h l e k q = absurd (not-suc-le-zero h)
-  read-bad (suc left) m kind i h l e k q = rw q (rw (lt-leb end p l, ← e, k) at i)
+  read-stop zero m kind b stop i h l e k f w q = absurd (not-suc-le-zero h)
+  read-stop (suc left) m kind b stop i h l e k f w q = rw (q, w) (rw (lt-leb end p l, ← e, ← k, f) at i)
 
   -- a block was copied from the image's bytes at a to the rest of the buffer, which came back as ys
-  pub read-next : (left a : ℕ) (kind : Kind) (ys : List ℕ) → readFrom s size kinds blocks end left off p buf ≡ X → 0 < left → p < end
-      → kind ≡ kindAt s kinds p → kind ≡ Data → a ≡ p * size
+  pub read-next : (left a : ℕ) (kind : Kind) (b : Bool) (ys : List ℕ) → readFrom s size kinds blocks end left off p buf ≡ X → 0 < left → p < end
+      → kind ≡ kindAt s kinds p → b ≡ holdsData kind → b ≡ true → a ≡ p * size
       → ys ≡ over (midOf off (length buf - off) buf) 0 (midOf (blocks + a) (blocks + a + size - (blocks + a)) s)
       → readFrom s size kinds blocks end (left - 1) (off + size) (p + 1) (putMid off (length buf - off) buf ys) ≡ X
   unfolding readFrom blockAt
-  read-next zero a kind ys i h l e k q r = absurd (not-suc-le-zero h)
-  read-next (suc left) a kind ys i h l e k q r =
-      rw (copied-over off (blocks + a) size buf s ys r, q, sub-one) (rw (lt-leb end p l, ← e, k) at i)
+  read-next zero a kind b ys i h l e k t q r = absurd (not-suc-le-zero h)
+  read-next (suc left) a kind b ys i h l e k t q r =
+      rw (copied-over off (blocks + a) size buf s ys r, q, sub-one) (rw (lt-leb end p l, ← e, ← k, t) at i)
 
 -- ---- the whole run
 
@@ -68,37 +62,35 @@ module _ (s : List ℕ) (size kinds blocks end : ℕ) where
   pub data ReadRun : ℕ → ℕ → ℕ → List ℕ → Reading → Type 0 where
     full : (off p : ℕ) (buf : List ℕ) → ReadRun 0 off p buf (reads buf (halts p 0 Full))
     at-end : (n off p : ℕ) (buf : List ℕ) → end ≤ p → ReadRun (suc n) off p buf (reads buf (halts p (suc n) AtEnd))
-    at-mark : (n off p : ℕ) (buf : List ℕ) → p < end → kindAt s kinds p ≡ Filemark → ReadRun (suc n) off p buf (reads buf (halts (p + 1) (suc n) AtFilemark))
-    at-bad : (n off p : ℕ) (buf : List ℕ) → p < end → kindAt s kinds p ≡ Unreadable → ReadRun (suc n) off p buf (reads buf (halts (p + 1) (suc n) AtBadBlock))
-    copies : (n off p : ℕ) (buf : List ℕ) (X : Reading) → p < end → kindAt s kinds p ≡ Data
+    stops : (n off p : ℕ) (buf : List ℕ) → p < end → holdsData (kindAt s kinds p) ≡ false
+        → ReadRun (suc n) off p buf (reads buf (halts (p + 1) (suc n) (stopAt (kindAt s kinds p))))
+    copies : (n off p : ℕ) (buf : List ℕ) (X : Reading) → p < end → holdsData (kindAt s kinds p) ≡ true
         → ReadRun n (off + size) (p + 1) (over buf off (blockAt s size blocks p)) X → ReadRun (suc n) off p buf X
 
-  one-read : (t : Bool) (kind : Kind) (n off p : ℕ) (buf : List ℕ) (X : Reading) → leb end p ≡ t → kindAt s kinds p ≡ kind
+  one-read : (t d : Bool) (n off p : ℕ) (buf : List ℕ) (X : Reading) → leb end p ≡ t → holdsData (kindAt s kinds p) ≡ d
       → ReadRun n (off + size) (p + 1) (over buf off (blockAt s size blocks p)) X
-      → ReadRun (suc n) off p buf (if t then reads buf (halts p (suc n) AtEnd) else byKind kind X (reads buf (halts (p + 1) (suc n) AtFilemark)) (reads buf (halts (p + 1) (suc n) AtBadBlock)))
-  one-read true kind n off p buf X h e r = at-end n off p buf (leb-true end p h)
-  one-read false Data n off p buf X h e r = copies n off p buf X (leb-false end p h) e r
-  one-read false Filemark n off p buf X h e r = at-mark n off p buf (leb-false end p h) e
-  one-read false Unreadable n off p buf X h e r = at-bad n off p buf (leb-false end p h) e
+      → ReadRun (suc n) off p buf
+      (if t then reads buf (halts p (suc n) AtEnd) else if d then X else reads buf (halts (p + 1) (suc n) (stopAt (kindAt s kinds p))))
+  one-read true d n off p buf X h e r = at-end n off p buf (leb-true end p h)
+  one-read false true n off p buf X h e r = copies n off p buf X (leb-false end p h) e r
+  one-read false false n off p buf X h e r = stops n off p buf (leb-false end p h) e
 
   pub read-run : (n off p : ℕ) (buf : List ℕ) → ReadRun n off p buf (readFrom s size kinds blocks end n off p buf)
   unfolding readFrom
   read-run zero off p buf = full off p buf
   read-run (suc n) off p buf =
-      one-read (leb end p) (kindAt s kinds p) n off p buf _ refl refl (read-run n (off + size) (p + 1) (over buf off (blockAt s size blocks p)))
+      one-read (leb end p) (holdsData (kindAt s kinds p)) n off p buf _ refl refl (read-run n (off + size) (p + 1) (over buf off (blockAt s size blocks p)))
 
   run-ended : {n off p : ℕ} {buf : List ℕ} {X : Reading} → ReadRun n off p buf X → Ended n (X .moved)
   run-ended (full off p buf) = ended-full p
   run-ended (at-end n off p buf h) = ended-short (suc n) p AtEnd (omega arith) end-short
-  run-ended (at-mark n off p buf h e) = ended-short (suc n) (p + 1) AtFilemark (omega arith) filemark-short
-  run-ended (at-bad n off p buf h e) = ended-short (suc n) (p + 1) AtBadBlock (omega arith) bad-short
+  run-ended (stops n off p buf h e) = ended-short (suc n) (p + 1) _ (omega arith) (stop-short (kindAt s kinds p))
   run-ended (copies n off p buf X h e r) = ended-on n (suc n) (X .moved) (omega arith) (run-ended r)
 
   run-place : {n off p : ℕ} {buf : List ℕ} {X : Reading} → ReadRun n off p buf X → p ≤ end → X .moved .place ≤ end
   run-place (full off p buf) l = l
   run-place (at-end n off p buf h) l = l
-  run-place (at-mark n off p buf h e) l = omega arith
-  run-place (at-bad n off p buf h e) l = omega arith
+  run-place (stops n off p buf h e) l = omega arith
   run-place (copies n off p buf X h e r) l = run-place r (omega arith)
 
   at-most : (p : ℕ) → length (blockAt s size blocks p) ≤ size
@@ -113,8 +105,7 @@ module _ (s : List ℕ) (size kinds blocks end : ℕ) where
   run-kept : {n off p : ℕ} {buf : List ℕ} {X : Reading} → ReadRun n off p buf X → off + n * size ≤ length buf → Kept off buf (X .buf)
   run-kept (full off p buf) l = record { size-kept = refl; before-kept = λ i h. refl }
   run-kept (at-end n off p buf h) l = record { size-kept = refl; before-kept = λ i h. refl }
-  run-kept (at-mark n off p buf h e) l = record { size-kept = refl; before-kept = λ i h. refl }
-  run-kept (at-bad n off p buf h e) l = record { size-kept = refl; before-kept = λ i h. refl }
+  run-kept (stops n off p buf h e) l = record { size-kept = refl; before-kept = λ i h. refl }
   run-kept (copies n off p buf X h e r) l =
       let m = at-most p in
       let o = over-length buf (blockAt s size blocks p) off (omega arith) in
@@ -130,8 +121,7 @@ module _ (s : List ℕ) (size kinds blocks end : ℕ) where
   unfolding blockAt
   run-block (full off p buf) l b j h = absurd (omega arith)
   run-block (at-end n off p buf g) l b j h = absurd (omega arith)
-  run-block (at-mark n off p buf g e) l b j h = absurd (omega arith)
-  run-block (at-bad n off p buf g e) l b j h = absurd (omega arith)
+  run-block (stops n off p buf g e) l b j h = absurd (omega arith)
   run-block (copies n off p buf X g e r) l b zero h =
       let m = mul-le-mul-right size g in
       let w = part-length s (blocks + p * size) size (omega arith) in
@@ -152,6 +142,50 @@ module _ (s : List ℕ) (size kinds blocks end : ℕ) where
       let y : p + suc j ≡ p + 1 + j = omega arith in
       rw (x, y) (run-block r (omega arith) b j (omega arith))
 
+  -- the buffer beyond the k blocks that were copied
+  pub record Copied (n off : ℕ) (buf : List ℕ) (X : Reading) : Type 0 where
+    pub less : X .moved .left ≤ n
+    pub beyond : (k : ℕ) → k + X .moved .left ≡ n → (i : ℕ) → off + k * size ≤ i → getD (X .buf) i 0 ≡ getD buf i 0
+
+  copied-none : (n off : ℕ) (buf : List ℕ) (m : Moved) → m .left ≡ n → Copied n off buf (reads buf m)
+  copied-none n off buf m e = record { less = omega arith; beyond = λ k e i h. refl }
+
+  copied-on : (n off p : ℕ) (buf : List ℕ) (X : Reading) → off + suc n * size ≤ length buf
+      → Copied n (off + size) (over buf off (blockAt s size blocks p)) X → Copied (suc n) off buf X
+  copied-on n off p buf X l r = record { less = omega (arith, r .less); beyond = further }
+    where
+      further : (k : ℕ) → k + X .moved .left ≡ suc n → (i : ℕ) → off + k * size ≤ i → getD (X .buf) i 0 ≡ getD buf i 0
+      further zero e i h = absurd (omega (arith, r .less))
+      further (suc k) e i h =
+          let m = at-most p in
+          r .beyond k (omega arith) i (omega arith) ∙ over-above buf (blockAt s size blocks p) off i (omega arith) (omega arith)
+
+  pub copied : {n off p : ℕ} {buf : List ℕ} {X : Reading} → ReadRun n off p buf X → off + n * size ≤ length buf → Copied n off buf X
+  copied (full off p buf) l = copied-none 0 off buf _ refl
+  copied (at-end n off p buf h) l = copied-none (suc n) off buf _ refl
+  copied (stops n off p buf h e) l = copied-none (suc n) off buf _ refl
+  copied (copies n off p buf X h e r) l =
+      let m = at-most p in
+      let o = over-length buf (blockAt s size blocks p) off (omega arith) in
+      copied-on n off p buf X l (copied r (omega arith))
+
+  -- each block that READ moved holds data and stands before the end
+  pub data-moved : {n off p : ℕ} {buf : List ℕ} {X : Reading} → ReadRun n off p buf X → (j : ℕ) → j + X .moved .left < n
+      → (p + j < end) × (holdsData (kindAt s kinds (p + j)) ≡ true)
+  data-moved (full off p buf) j l = absurd (omega arith)
+  data-moved (at-end n off p buf h) j l = absurd (omega arith)
+  data-moved (stops n off p buf h e) j l = absurd (omega arith)
+  data-moved (copies n off p buf X h e r) zero l = let y : p + 0 ≡ p = omega arith in rw y (h, e)
+  data-moved (copies n off p buf X h e r) (suc j) l = let y : p + suc j ≡ p + 1 + j = omega arith in rw y (data-moved r j (omega arith))
+
+  -- so no more blocks than the end's place
+  pub few-moved : {n off p : ℕ} {buf : List ℕ} {X : Reading} → ReadRun n off p buf X → n - X .moved .left ≤ end
+  few-moved {n = n} {X = X} r = by (n - X .moved .left) refl
+    where
+      by : (k : ℕ) → n - X .moved .left ≡ k → k ≤ end
+      by zero e = omega arith
+      by (suc j) e = omega (arith, data-moved r j (omega arith) .0)
+
   module _ (n off p : ℕ) (buf : List ℕ) where
     pub read-ended : Ended n (readFrom s size kinds blocks end n off p buf .moved)
     read-ended = run-ended (read-run n off p buf)
@@ -170,3 +204,9 @@ module _ (s : List ℕ) (size kinds blocks end : ℕ) where
         → (j : ℕ) → j + readFrom s size kinds blocks end n off p buf .moved .left < n
         → part (readFrom s size kinds blocks end n off p buf .buf) (off + j * size) size ≡ blockAt s size blocks (p + j)
     read-block = run-block (read-run n off p buf)
+
+  -- READ that starts at a block that holds data moves it
+  pub read-first : (n off p : ℕ) (buf : List ℕ) → p < end → holdsData (kindAt s kinds p) ≡ true
+      → readFrom s size kinds blocks end (suc n) off p buf .moved .left ≤ n
+  unfolding readFrom
+  read-first n off p buf l k = rw (lt-leb end p l, k) (read-left n (off + size) (p + 1) (over buf off (blockAt s size blocks p)))

@@ -12,31 +12,31 @@ use lib.Dec.{leb, eqb}
 use Rattle.numbers.specs.Choice.{if_then_else_}
 use Rattle.image.specs.declared.elements.Kind.{Kind}
 use Rattle.image.specs.declared.elements.Kind.the-variants.{Data, Filemark, Unreadable}
-use Rattle.image.specs.Elements.{kindAt}
+use Rattle.image.specs.Elements.{isFilemark, kindAt}
 use Rattle.transfer.specs.declared.Moved.{Moved}
 use Rattle.transfer.specs.declared.Stop.the-variants.{Full, AtFilemark, AtEnd, AtBeginning}
 use Rattle.transfer.specs.Moving.{halts}
-use Rattle.transfer.specs.Spacing.{isFilemark, marksLeft, blocksOn, blocksBack, marksOn, marksBack}
+use Rattle.transfer.specs.Spacing.{marksLeft, blocksOn, blocksBack, marksOn, marksBack}
 use Rattle.transfer.proofs.EndLaws.{Ended, ended-full, ended-short, ended-on, filemark-short, end-short, beginning-short}
 
 module _ (s : List ℕ) (kinds p : ℕ) (X : Moved) where
   -- ---- blocks on
 
-  pub on-done : (end left : ℕ) → blocksOn s kinds end left p ≡ X → left ≤ 0 → halts p 0 Full ≡ X
+  pub on-done : (end left : ℕ) (m : Moved) → blocksOn s kinds end left p ≡ X → left ≤ 0 → m ≡ halts p 0 Full → m ≡ X
   unfolding blocksOn
-  on-done end zero i h = i
-  on-done end (suc left) i h = absurd (not-suc-le-zero h)
+  on-done end zero m i h z = rw z i
+  on-done end (suc left) m i h z = absurd (not-suc-le-zero h)
 
-  pub on-end : (end left : ℕ) → blocksOn s kinds end left p ≡ X → 0 < left → end ≤ p → halts p left AtEnd ≡ X
+  pub on-end : (end left : ℕ) (m : Moved) → blocksOn s kinds end left p ≡ X → 0 < left → end ≤ p → m ≡ halts p left AtEnd → m ≡ X
   unfolding blocksOn
-  on-end end zero i h e = absurd (not-suc-le-zero h)
-  on-end end (suc left) i h e = rw (le-leb end p e) at i
+  on-end end zero m i h e z = absurd (not-suc-le-zero h)
+  on-end end (suc left) m i h e z = rw z (rw (le-leb end p e) at i)
 
-  pub on-mark : (end left : ℕ) (kind : Kind) (b : Bool) → blocksOn s kinds end left p ≡ X → 0 < left → p < end
-      → kind ≡ kindAt s kinds p → b ≡ isFilemark kind → b ≡ true → halts (p + 1) left AtFilemark ≡ X
+  pub on-mark : (end left : ℕ) (m : Moved) (kind : Kind) (b : Bool) → blocksOn s kinds end left p ≡ X → 0 < left → p < end
+      → kind ≡ kindAt s kinds p → b ≡ isFilemark kind → b ≡ true → m ≡ halts (p + 1) left AtFilemark → m ≡ X
   unfolding blocksOn
-  on-mark end zero kind b i h l e q t = absurd (not-suc-le-zero h)
-  on-mark end (suc left) kind b i h l e q t = rw (lt-leb end p l, ← e, ← q, t) at i
+  on-mark end zero m kind b i h l e q t z = absurd (not-suc-le-zero h)
+  on-mark end (suc left) m kind b i h l e q t z = rw z (rw (lt-leb end p l, ← e, ← q, t) at i)
 
   pub on-next : (end left : ℕ) (kind : Kind) (b : Bool) → blocksOn s kinds end left p ≡ X → 0 < left → p < end
       → kind ≡ kindAt s kinds p → b ≡ isFilemark kind → b ≡ false → blocksOn s kinds end (left - 1) (p + 1) ≡ X
@@ -46,17 +46,17 @@ module _ (s : List ℕ) (kinds p : ℕ) (X : Moved) where
 
   -- ---- filemarks on
 
-  pub marks-on-done : (ahead left : ℕ) → marksOn s kinds ahead left p ≡ X → left ≤ 0 → halts p 0 Full ≡ X
+  pub marks-on-done : (ahead left : ℕ) (m : Moved) → marksOn s kinds ahead left p ≡ X → left ≤ 0 → m ≡ halts p 0 Full → m ≡ X
   unfolding marksOn
-  marks-on-done zero zero i h = i
-  marks-on-done (suc ahead) zero i h = i
-  marks-on-done ahead (suc left) i h = absurd (not-suc-le-zero h)
+  marks-on-done zero zero m i h z = rw z i
+  marks-on-done (suc ahead) zero m i h z = rw z i
+  marks-on-done ahead (suc left) m i h z = absurd (not-suc-le-zero h)
 
-  pub marks-on-end : (end left : ℕ) → marksOn s kinds (end - p) left p ≡ X → 0 < left → end ≤ p → halts p left AtEnd ≡ X
+  pub marks-on-end : (end left : ℕ) (m : Moved) → marksOn s kinds (end - p) left p ≡ X → 0 < left → end ≤ p → m ≡ halts p left AtEnd → m ≡ X
   unfolding marksOn
-  marks-on-end end left i h e =
+  marks-on-end end left m i h e q =
       let z : end - p ≡ 0 = omega arith in
-      rw (z, ne-eqb left 0 (λ x. omega arith)) at i
+      rw q (rw (z, ne-eqb left 0 (λ x. omega arith)) at i)
 
   pub marks-on-next : (end left new : ℕ) (kind : Kind) → marksOn s kinds (end - p) left p ≡ X → 0 < left → p < end
       → kind ≡ kindAt s kinds p → new ≡ marksLeft kind left → marksOn s kinds (end - (p + 1)) new (p + 1) ≡ X
@@ -68,22 +68,22 @@ module _ (s : List ℕ) (kinds p : ℕ) (X : Moved) where
 module _ (s : List ℕ) (kinds : ℕ) (X : Moved) where
   -- ---- blocks back
 
-  pub back-done : (p left : ℕ) → blocksBack s kinds p left ≡ X → left ≤ 0 → halts p 0 Full ≡ X
+  pub back-done : (p left : ℕ) (m : Moved) → blocksBack s kinds p left ≡ X → left ≤ 0 → m ≡ halts p 0 Full → m ≡ X
   unfolding blocksBack
-  back-done p zero i h = i
-  back-done p (suc left) i h = absurd (not-suc-le-zero h)
+  back-done p zero m i h z = rw z i
+  back-done p (suc left) m i h z = absurd (not-suc-le-zero h)
 
-  pub back-start : (p left : ℕ) → blocksBack s kinds p left ≡ X → 0 < left → p ≡ 0 → halts 0 left AtBeginning ≡ X
+  pub back-start : (p left : ℕ) (m : Moved) → blocksBack s kinds p left ≡ X → 0 < left → p ≡ 0 → m ≡ halts 0 left AtBeginning → m ≡ X
   unfolding blocksBack
-  back-start p zero i h e = absurd (not-suc-le-zero h)
-  back-start p (suc left) i h e = rw e at i
+  back-start p zero m i h e z = absurd (not-suc-le-zero h)
+  back-start p (suc left) m i h e z = rw z (rw e at i)
 
-  pub back-mark : (p left : ℕ) (kind : Kind) (b : Bool) → blocksBack s kinds p left ≡ X → 0 < left → (p ≡ 0 → ⊥)
-      → kind ≡ kindAt s kinds (p - 1) → b ≡ isFilemark kind → b ≡ true → halts (p - 1) left AtFilemark ≡ X
+  pub back-mark : (p left : ℕ) (m : Moved) (kind : Kind) (b : Bool) → blocksBack s kinds p left ≡ X → 0 < left → (p ≡ 0 → ⊥)
+      → kind ≡ kindAt s kinds (p - 1) → b ≡ isFilemark kind → b ≡ true → m ≡ halts (p - 1) left AtFilemark → m ≡ X
   unfolding blocksBack
-  back-mark p zero kind b i h n e q t = absurd (not-suc-le-zero h)
-  back-mark zero (suc left) kind b i h n e q t = absurd (n refl)
-  back-mark (suc p) (suc left) kind b i h n e q t = rw sub-one (rw (← (rw sub-one at e), ← q, t) at i)
+  back-mark p zero m kind b i h n e q t z = absurd (not-suc-le-zero h)
+  back-mark zero (suc left) m kind b i h n e q t z = absurd (n refl)
+  back-mark (suc p) (suc left) m kind b i h n e q t z = rw z (rw sub-one (rw (← (rw sub-one at e), ← q, t) at i))
 
   pub back-next : (p left : ℕ) (kind : Kind) (b : Bool) → blocksBack s kinds p left ≡ X → 0 < left → (p ≡ 0 → ⊥)
       → kind ≡ kindAt s kinds (p - 1) → b ≡ isFilemark kind → b ≡ false → blocksBack s kinds (p - 1) (left - 1) ≡ X
@@ -94,15 +94,15 @@ module _ (s : List ℕ) (kinds : ℕ) (X : Moved) where
 
   -- ---- filemarks back
 
-  pub marks-back-done : (p left : ℕ) → marksBack s kinds p left ≡ X → left ≤ 0 → halts p 0 Full ≡ X
+  pub marks-back-done : (p left : ℕ) (m : Moved) → marksBack s kinds p left ≡ X → left ≤ 0 → m ≡ halts p 0 Full → m ≡ X
   unfolding marksBack
-  marks-back-done zero zero i h = i
-  marks-back-done (suc p) zero i h = i
-  marks-back-done p (suc left) i h = absurd (not-suc-le-zero h)
+  marks-back-done zero zero m i h z = rw z i
+  marks-back-done (suc p) zero m i h z = rw z i
+  marks-back-done p (suc left) m i h z = absurd (not-suc-le-zero h)
 
-  pub marks-back-start : (p left : ℕ) → marksBack s kinds p left ≡ X → 0 < left → p ≡ 0 → halts 0 left AtBeginning ≡ X
+  pub marks-back-start : (p left : ℕ) (m : Moved) → marksBack s kinds p left ≡ X → 0 < left → p ≡ 0 → m ≡ halts 0 left AtBeginning → m ≡ X
   unfolding marksBack
-  marks-back-start p left i h e = rw (e, ne-eqb left 0 (λ x. omega arith)) at i
+  marks-back-start p left m i h e z = rw z (rw (e, ne-eqb left 0 (λ x. omega arith)) at i)
 
   pub marks-back-next : (p left new : ℕ) (kind : Kind) → marksBack s kinds p left ≡ X → 0 < left → (p ≡ 0 → ⊥)
       → kind ≡ kindAt s kinds (p - 1) → new ≡ marksLeft kind left → marksBack s kinds (p - 1) new ≡ X

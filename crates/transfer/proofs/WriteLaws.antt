@@ -23,15 +23,15 @@ record Advanced (n p : ℕ) (m : Moved) : Type 0 where
 
 module _ (lay : ℕ → ℕ → List ℕ → List ℕ) (size end : ℕ) where
   module _ (off p : ℕ) (s : List ℕ) (X : Writing) where
-    pub lay-done : (left : ℕ) → layFrom lay size end left off p s ≡ X → left ≤ 0 → writes s (halts p 0 Full) ≡ X
+    pub lay-done : (left : ℕ) (m : Moved) → layFrom lay size end left off p s ≡ X → left ≤ 0 → m ≡ halts p 0 Full → writes s m ≡ X
     unfolding layFrom
-    lay-done zero i h = i
-    lay-done (suc left) i h = absurd (not-suc-le-zero h)
+    lay-done zero m i h z = rw z i
+    lay-done (suc left) m i h z = absurd (not-suc-le-zero h)
 
-    pub lay-end : (left : ℕ) → layFrom lay size end left off p s ≡ X → 0 < left → end ≤ p → writes s (halts p left AtEnd) ≡ X
+    pub lay-end : (left : ℕ) (m : Moved) → layFrom lay size end left off p s ≡ X → 0 < left → end ≤ p → m ≡ halts p left AtEnd → writes s m ≡ X
     unfolding layFrom
-    lay-end zero i h e = absurd (not-suc-le-zero h)
-    lay-end (suc left) i h e = rw (le-leb end p e) at i
+    lay-end zero m i h e z = absurd (not-suc-le-zero h)
+    lay-end (suc left) m i h e z = rw z (rw (le-leb end p e) at i)
 
     pub lay-next : (left : ℕ) (new : List ℕ) → layFrom lay size end left off p s ≡ X → 0 < left → p < end → new ≡ lay off p s
         → layFrom lay size end (left - 1) (off + size) (p + 1) new ≡ X

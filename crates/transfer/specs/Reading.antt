@@ -5,9 +5,9 @@ use mathlib.Core.List.{List}
 use Rattle.numbers.specs.Choice.{if_then_else_, _≤ᵇ_}
 use Rattle.numbers.specs.Over.{over}
 use Rattle.image.specs.declared.elements.Kind.{Kind}
-use Rattle.image.specs.declared.elements.Kind.the-variants.{Data, Filemark, Unreadable}
-use Rattle.image.specs.Elements.{kindAt, blockAt}
+use Rattle.image.specs.Elements.{holdsData, isFilemark, kindAt, blockAt}
 use Rattle.transfer.specs.declared.Moved.{Moved}
+use Rattle.transfer.specs.declared.Stop.{Stop}
 use Rattle.transfer.specs.declared.Stop.the-variants.{Full, AtFilemark, AtBadBlock, AtEnd}
 use Rattle.transfer.specs.Moving.{halts}
 
@@ -19,10 +19,9 @@ pub record Reading : Type 0 where
 abbrev pub reads : List ℕ → Moved → Reading
 reads buf moved = record { buf = buf; moved = moved }
 
-abbrev pub byKind : Kind → Reading → Reading → Reading → Reading
-byKind Data copied mark bad = copied
-byKind Filemark copied mark bad = mark
-byKind Unreadable copied mark bad = bad
+-- why READ stops at an element that holds no data
+unfoldable pub stopAt : Kind → Stop
+stopAt kind = if isFilemark kind then AtFilemark else AtBadBlock
 
 -- from place p of the image s with its end at `end`, `left` blocks into buf from offset off on:
 -- "Each transfer stores block by block into the rest of the host's buffer; bytes beyond the transfer stay."
@@ -31,7 +30,5 @@ module _ (s : List ℕ) (size kinds blocks end : ℕ) where
   readFrom zero off p buf = reads buf (halts p 0 Full)
   readFrom (suc left) off p buf =
       if end ≤ᵇ p then reads buf (halts p (suc left) AtEnd) else
-      byKind (kindAt s kinds p)
-      (readFrom left (off + size) (p + 1) (over buf off (blockAt s size blocks p)))
-      (reads buf (halts (p + 1) (suc left) AtFilemark))
-      (reads buf (halts (p + 1) (suc left) AtBadBlock))
+      if holdsData (kindAt s kinds p) then readFrom left (off + size) (p + 1) (over buf off (blockAt s size blocks p)) else
+      reads buf (halts (p + 1) (suc left) (stopAt (kindAt s kinds p)))

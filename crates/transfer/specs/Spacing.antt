@@ -2,20 +2,13 @@
 -- beginning side when going back." The end of data and the beginning stop both.
 -- Assumes nothing.
 use Prim.Native.Nat.{ℕ, zero, suc, _+_, _-_}
-use mathlib.Core.Bool.{Bool, true, false}
 use mathlib.Core.List.{List}
 use Rattle.numbers.specs.Choice.{if_then_else_, _≤ᵇ_, _≡ᵇ_}
 use Rattle.image.specs.declared.elements.Kind.{Kind}
-use Rattle.image.specs.declared.elements.Kind.the-variants.{Data, Filemark, Unreadable}
-use Rattle.image.specs.Elements.{kindAt}
+use Rattle.image.specs.Elements.{isFilemark, kindAt}
 use Rattle.transfer.specs.declared.Moved.{Moved}
 use Rattle.transfer.specs.declared.Stop.the-variants.{Full, AtFilemark, AtEnd, AtBeginning}
 use Rattle.transfer.specs.Moving.{halts}
-
-abbrev pub isFilemark : Kind → Bool
-isFilemark Data = false
-isFilemark Filemark = true
-isFilemark Unreadable = false
 
 -- how many filemarks are left to pass, once this element is passed
 abbrev pub marksLeft : Kind → ℕ → ℕ

@@ -2,14 +2,25 @@
 ghost use mathlib.Core.Path.{_≡_};
 ghost use Prim.Native.Nat.{_+_, _*_, _≤_};
 ghost use lib.ListN.{length};
-ghost use Rattle.transfer.specs.Reading.{reads, readFrom};
+ghost use Rattle.transfer.specs.Reading.{reads, stopAt, readFrom};
 use crate::Moved;
 use crate::Stop;
 use crate::halt;
 use image::elements::Kind;
+use image::elements::holds_data;
+use image::elements::is_filemark;
 use image::elements::kind_at;
 use image::header::span;
 use numbers::copying::copy_block;
+
+fn stop_at(kind: Kind) -> Stop
+    ensures { λ r. ⌜ r ≡ stopAt kind ⌝ }
+{
+    if is_filemark(kind) {
+        return Stop::AtFilemark;
+    }
+    Stop::AtBadBlock
+}
 
 // Lends the buffer from the current offset on to the copier of one block; what stands beyond the transfer stays.
 pub fn read_blocks(
@@ -32,21 +43,16 @@ pub fn read_blocks(
         if at >= end {
             return halt(at, left, Stop::AtEnd);
         }
-        match kind_at(image, kinds, at) {
-            Kind::Data => {
-                let from = blocks + span(at, size);
-                let to = from + size;
-                copy_block(&mut buf[off..], &image[from..to]);
-                off = off + size;
-                at = at + 1;
-                left = left - 1;
-            }
-            Kind::Filemark => {
-                return halt(at + 1, left, Stop::AtFilemark);
-            }
-            Kind::Unreadable => {
-                return halt(at + 1, left, Stop::AtBadBlock);
-            }
+        let kind = kind_at(image, kinds, at);
+        if holds_data(kind) {
+            let from = blocks + span(at, size);
+            let to = from + size;
+            copy_block(&mut buf[off..], &image[from..to]);
+            off = off + size;
+            at = at + 1;
+            left = left - 1;
+        } else {
+            return halt(at + 1, left, stop_at(kind));
         }
     }
     halt(at, 0, Stop::Full)

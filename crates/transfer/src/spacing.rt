@@ -2,21 +2,13 @@
 ghost use mathlib.Core.Path.{_≡_};
 ghost use Prim.Native.Nat.{_+_, _-_, _≤_};
 ghost use lib.ListN.{length};
-ghost use Rattle.transfer.specs.Spacing.{isFilemark, marksLeft, blocksOn, blocksBack, marksOn, marksBack};
+ghost use Rattle.transfer.specs.Spacing.{marksLeft, blocksOn, blocksBack, marksOn, marksBack};
 use crate::Moved;
 use crate::Stop;
+use crate::halt;
 use image::elements::Kind;
+use image::elements::is_filemark;
 use image::elements::kind_at;
-
-fn is_filemark(kind: Kind) -> bool
-    ensures { λ r. ⌜ r ≡ isFilemark kind ⌝ }
-{
-    match kind {
-        Kind::Data => false,
-        Kind::Filemark => true,
-        Kind::Unreadable => false,
-    }
-}
 
 fn marks_left(kind: Kind, left: usize) -> usize
     requires { ⌜ 1 ≤ left ⌝ }
@@ -37,28 +29,16 @@ pub fn blocks_on(image: &[u8], kinds: usize, end: usize, n: usize, p: usize) -> 
     let mut at = p;
     while left > 0 {
         if at >= end {
-            return Moved {
-                place: at,
-                left,
-                stop: Stop::AtEnd,
-            };
+            return halt(at, left, Stop::AtEnd);
         }
         let mark = is_filemark(kind_at(image, kinds, at));
         at = at + 1;
         if mark {
-            return Moved {
-                place: at,
-                left,
-                stop: Stop::AtFilemark,
-            };
+            return halt(at, left, Stop::AtFilemark);
         }
         left = left - 1;
     }
-    Moved {
-        place: at,
-        left: 0,
-        stop: Stop::Full,
-    }
+    halt(at, 0, Stop::Full)
 }
 
 pub fn blocks_back(image: &[u8], kinds: usize, n: usize, p: usize) -> Moved
@@ -69,29 +49,17 @@ pub fn blocks_back(image: &[u8], kinds: usize, n: usize, p: usize) -> Moved
     let mut at = p;
     while left > 0 {
         if at == 0 {
-            return Moved {
-                place: 0,
-                left,
-                stop: Stop::AtBeginning,
-            };
+            return halt(0, left, Stop::AtBeginning);
         }
         let back = at - 1;
         let mark = is_filemark(kind_at(image, kinds, back));
         if mark {
-            return Moved {
-                place: back,
-                left,
-                stop: Stop::AtFilemark,
-            };
+            return halt(back, left, Stop::AtFilemark);
         }
         at = back;
         left = left - 1;
     }
-    Moved {
-        place: at,
-        left: 0,
-        stop: Stop::Full,
-    }
+    halt(at, 0, Stop::Full)
 }
 
 pub fn marks_on(image: &[u8], kinds: usize, end: usize, n: usize, p: usize) -> Moved
@@ -102,20 +70,12 @@ pub fn marks_on(image: &[u8], kinds: usize, end: usize, n: usize, p: usize) -> M
     let mut at = p;
     while left > 0 {
         if at >= end {
-            return Moved {
-                place: at,
-                left,
-                stop: Stop::AtEnd,
-            };
+            return halt(at, left, Stop::AtEnd);
         }
         left = marks_left(kind_at(image, kinds, at), left);
         at = at + 1;
     }
-    Moved {
-        place: at,
-        left: 0,
-        stop: Stop::Full,
-    }
+    halt(at, 0, Stop::Full)
 }
 
 pub fn marks_back(image: &[u8], kinds: usize, n: usize, p: usize) -> Moved
@@ -126,18 +86,10 @@ pub fn marks_back(image: &[u8], kinds: usize, n: usize, p: usize) -> Moved
     let mut at = p;
     while left > 0 {
         if at == 0 {
-            return Moved {
-                place: 0,
-                left,
-                stop: Stop::AtBeginning,
-            };
+            return halt(0, left, Stop::AtBeginning);
         }
         at = at - 1;
         left = marks_left(kind_at(image, kinds, at), left);
     }
-    Moved {
-        place: at,
-        left: 0,
-        stop: Stop::Full,
-    }
+    halt(at, 0, Stop::Full)
 }

@@ -5,6 +5,7 @@ ghost use lib.ListN.{length};
 ghost use Rattle.transfer.specs.Writing.{writes, writeFrom, markFrom};
 use crate::Moved;
 use crate::Stop;
+use crate::halt;
 use image::elements::lay_block;
 use image::elements::lay_mark;
 
@@ -26,22 +27,14 @@ pub fn write_blocks(
     let mut off: usize = 0;
     while left > 0 {
         if at >= end {
-            return Moved {
-                place: at,
-                left,
-                stop: Stop::AtEnd,
-            };
+            return halt(at, left, Stop::AtEnd);
         }
         lay_block(image, size, kinds, blocks, at, src, off);
         off = off + size;
         at = at + 1;
         left = left - 1;
     }
-    Moved {
-        place: at,
-        left: 0,
-        stop: Stop::Full,
-    }
+    halt(at, 0, Stop::Full)
 }
 
 pub fn write_filemarks(image: &mut [u8], kinds: usize, end: usize, n: usize, p: usize) -> Moved
@@ -52,19 +45,11 @@ pub fn write_filemarks(image: &mut [u8], kinds: usize, end: usize, n: usize, p: 
     let mut at = p;
     while left > 0 {
         if at >= end {
-            return Moved {
-                place: at,
-                left,
-                stop: Stop::AtEnd,
-            };
+            return halt(at, left, Stop::AtEnd);
         }
         lay_mark(image, kinds, at);
         at = at + 1;
         left = left - 1;
     }
-    Moved {
-        place: at,
-        left: 0,
-        stop: Stop::Full,
-    }
+    halt(at, 0, Stop::Full)
 }

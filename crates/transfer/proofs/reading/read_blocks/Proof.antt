@@ -7,7 +7,7 @@ use native.Mathlib.Omega.{arith}
 use lib.ListN.{length}
 use Rattle.numbers.proofs.OverLaws.{copy-fits}
 use Rattle.transfer.specs.Reading.{readFrom}
-use Rattle.transfer.proofs.ReadLaws.{one-fewer, read-done, read-end, read-mark, read-bad, read-next}
+use Rattle.transfer.proofs.ReadLaws.{one-fewer, read-done, read-end, read-stop, read-next}
 use Rattle.transfer.proofs.reading.read_blocks.Statement.{statement}
 use Rattle.transfer.proofs.reading.read_blocks.Tie as tie
 
@@ -34,8 +34,8 @@ returns c = search read-end
 kind-at-requires : tie.Need-kind-at-requires Inv-loop μ-loop
 kind-at-requires c κs = omega arith
 
-enum-told : tie.Need-enum-told Inv-loop μ-loop
-enum-told c = omega arith
+holds-data-requires : tie.Need-holds-data-requires Inv-loop μ-loop
+holds-data-requires c κs = tt
 
 span-requires : tie.Need-span-requires Inv-loop μ-loop
 span-requires c κs = omega arith
@@ -90,19 +90,20 @@ loop-less c = omega arith
 
 loop-again : tie.Need-loop-again Inv-loop μ-loop
 loop-again c =
-    let e = c .before .before .before .before .before .before .before .before in
+    let s = c .before .before .before .before .before in
+    let e = s .before .before .before in
     let l = e .before .before .before .loop in
     let d = one-fewer (l .left) (e .before .before .before .before .before .before .args .size) (e .before .before .loop-test .taken) in (
-      read-next _ _ _ _ _ _ _ _ _ _ _ _ _ (l .inv .0) (search) (search) (e .kind-at .ensures)
-          (c .before .before .before .before .before .before .enum-told .given .1) (c .before .before .before .before .before .span .ensures .0) (c .before .before .copy-block .ensures),
+      read-next _ _ _ _ _ _ _ _ _ _ _ _ _ _ (l .inv .0) (search) (search) (e .kind-at .ensures) (s .before .before .holds-data .ensures)
+          (s .before .if2 .taken) (s .span .ensures .0) (c .before .before .copy-block .ensures),
       omega (arith, c .before .buf .given),
     )
 
-enum-told-2 : tie.Need-enum-told-2 Inv-loop μ-loop
-enum-told-2 c = omega arith
-
 add-halt : tie.Need-add-halt Inv-loop μ-loop
 add-halt c = omega arith
+
+stop-at-requires : tie.Need-stop-at-requires Inv-loop μ-loop
+stop-at-requires c κs = tt
 
 halt-requires-2 : tie.Need-halt-requires-2 Inv-loop μ-loop
 halt-requires-2 c κs = tt
@@ -111,15 +112,7 @@ same-length-2 : tie.Need-same-length-2 Inv-loop μ-loop
 same-length-2 c = omega arith
 
 returns-2 : tie.Need-returns-2 Inv-loop μ-loop
-returns-2 c =
-    let e = c .before .before .before in
-    read-mark _ _ _ _ _ _ _ _ _ _ _ _ (e .before .before .before .loop .inv .0) (search) (search) (e .kind-at .ensures) (c .before .enum-told2 .given .1) (c .halt2 .ensures)
-
-enum-told-3 : tie.Need-enum-told-3 Inv-loop μ-loop
-enum-told-3 c = omega arith
-
-add-halt-2 : tie.Need-add-halt-2 Inv-loop μ-loop
-add-halt-2 c = omega arith
+returns-2 c = search read-stop
 
 halt-requires-3 : tie.Need-halt-requires-3 Inv-loop μ-loop
 halt-requires-3 c κs = tt
@@ -128,18 +121,7 @@ same-length-3 : tie.Need-same-length-3 Inv-loop μ-loop
 same-length-3 c = omega arith
 
 returns-3 : tie.Need-returns-3 Inv-loop μ-loop
-returns-3 c =
-    let e = c .before .before .before in
-    read-bad _ _ _ _ _ _ _ _ _ _ _ _ (e .before .before .before .loop .inv .0) (search) (search) (e .kind-at .ensures) (c .before .enum-told3 .given .1) (c .halt3 .ensures)
-
-halt-requires-4 : tie.Need-halt-requires-4 Inv-loop μ-loop
-halt-requires-4 c κs = tt
-
-same-length-4 : tie.Need-same-length-4 Inv-loop μ-loop
-same-length-4 c = omega arith
-
-returns-4 : tie.Need-returns-4 Inv-loop μ-loop
-returns-4 c = search read-done
+returns-3 c = search read-done
 
 pub read-blocks-spec : {M : Type 1} → statement M
 read-blocks-spec =
@@ -152,7 +134,7 @@ read-blocks-spec =
     same-length
     returns
     kind-at-requires
-    enum-told
+    holds-data-requires
     span-requires
     add-from
     add-to
@@ -168,16 +150,11 @@ read-blocks-spec =
     sub-left
     loop-less
     loop-again
-    enum-told-2
     add-halt
+    stop-at-requires
     halt-requires-2
     same-length-2
     returns-2
-    enum-told-3
-    add-halt-2
     halt-requires-3
     same-length-3
-    returns-3
-    halt-requires-4
-    same-length-4
-    returns-4)
+    returns-3)

@@ -22,6 +22,9 @@ abbrev μ-loop : tie.MeasureT-loop
 loop-holds : tie.Need-loop-holds Inv-loop μ-loop
 loop-holds c = (refl, omega arith)
 
+halt-requires : tie.Need-halt-requires Inv-loop μ-loop
+halt-requires c κs = tt
+
 same-length : tie.Need-same-length Inv-loop μ-loop
 same-length c = omega arith
 
@@ -54,6 +57,9 @@ loop-again c =
     let d = one-fewer (l .left) (b .before .before .before .before .args .size) (b .loop-test .taken) in
     (lay-next _ _ _ _ _ _ _ _ _ (l .inv .0) (search) (search) (search), omega arith)
 
+halt-requires-2 : tie.Need-halt-requires-2 Inv-loop μ-loop
+halt-requires-2 c κs = tt
+
 same-length-2 : tie.Need-same-length-2 Inv-loop μ-loop
 same-length-2 c = omega arith
 
@@ -67,6 +73,7 @@ write-blocks-spec =
     Inv-loop
     μ-loop
     loop-holds
+    halt-requires
     same-length
     returns
     lay-block-requires
@@ -75,5 +82,6 @@ write-blocks-spec =
     sub-left
     loop-less
     loop-again
+    halt-requires-2
     same-length-2
     returns-2)

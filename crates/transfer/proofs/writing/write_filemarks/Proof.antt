@@ -18,6 +18,9 @@ abbrev μ-loop : tie.MeasureT-loop
 loop-holds : tie.Need-loop-holds Inv-loop μ-loop
 loop-holds c = (refl, omega arith)
 
+halt-requires : tie.Need-halt-requires Inv-loop μ-loop
+halt-requires c κs = tt
+
 same-length : tie.Need-same-length Inv-loop μ-loop
 same-length c = omega arith
 
@@ -39,6 +42,9 @@ loop-less c = omega arith
 loop-again : tie.Need-loop-again Inv-loop μ-loop
 loop-again c = (lay-next _ _ _ _ _ _ _ _ _ (c .before .before .before .before .before .before .loop .inv .0) (search) (search) (search), omega arith)
 
+halt-requires-2 : tie.Need-halt-requires-2 Inv-loop μ-loop
+halt-requires-2 c κs = tt
+
 same-length-2 : tie.Need-same-length-2 Inv-loop μ-loop
 same-length-2 c = omega arith
 
@@ -52,6 +58,7 @@ write-filemarks-spec =
     Inv-loop
     μ-loop
     loop-holds
+    halt-requires
     same-length
     returns
     lay-mark-requires
@@ -59,5 +66,6 @@ write-filemarks-spec =
     sub-left
     loop-less
     loop-again
+    halt-requires-2
     same-length-2
     returns-2)
