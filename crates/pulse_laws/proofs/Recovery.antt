@@ -15,11 +15,11 @@ use Rattle.pulse_parts.specs.declared.marks.Marks.{Marks}
 use Rattle.pulse_parts.specs.declared.reports.Report.{Report}
 use Rattle.pulse_parts.specs.Codes.{reportError, reportStatus}
 use Rattle.pulse_parts.specs.Errors.{noError}
-use Rattle.pulse_parts.specs.Heads.{isLoad, toward}
+use Rattle.pulse_parts.specs.Heads.{toward}
 use Rattle.pulse_parts.specs.Reports.{errorBits, isOpen, mostItems, reportOf16}
 use Rattle.pulse.specs.declared.calls.Step.{Step}
 use Rattle.pulse.specs.declared.drive.Drive.{Drive}
-use Rattle.pulse.specs.Drives.{isReady}
+use Rattle.pulse.specs.Drives.{isReady, withHead, withoutArguments}
 use Rattle.pulse.specs.Events.{runFor}
 use Rattle.pulse.specs.Motions.{arrived, ticked}
 use Rattle.pulse.specs.Reports.{errorRead, reportOf, statusAsked, stepOpenReport}
@@ -27,7 +27,7 @@ use Rattle.pulse.specs.Train.{trainStep}
 use Rattle.pulse_laws.proofs.Bools.{ands, either, test}
 use Rattle.pulse_laws.proofs.Idle.{Idle}
 use Rattle.pulse_laws.proofs.Kept.{reachable-keeps}
-use Rattle.pulse_laws.proofs.Motion.{within}
+use Rattle.pulse_laws.proofs.Motion.{ended, nearer, within}
 use Rattle.pulse_laws.proofs.Reading.{Paid, Steady, Stood, after-append, after-cons, answers-cons, answers-drop, owed, paid, read-out, seven-is, six-is, still-ready, stood, train-steady}
 use Rattle.pulse_laws.proofs.Reports.{few}
 use Rattle.pulse_laws.proofs.Rules.{Rules, to-rules}
@@ -46,7 +46,8 @@ unfolding ticked arrived
 tick-holds d =
     either (Holds (d .fault)) (isReady d) _ _ (λ e. refl)
     (λ e. either (Holds (d .fault)) (toward (d .head .place) (d .head .target) ≡ᵇ d .head .target) _ _
-    (λ f. either (Holds (d .fault)) (isLoad (d .head .motion)) _ _ (λ l. refl) (λ l. refl)) (λ f. refl))
+    (λ f. ended (Holds (d .fault)) (d .head .motion) (withHead (withoutArguments d) (nearer (d .head))) (λ s. refl) (λ s. refl) (λ s. refl))
+    (λ f. refl))
 
 run-holds : (k : ℕ) (d : Drive) → Holds (d .fault) (runFor k d)
 unfolding runFor

@@ -14,7 +14,7 @@ use Rattle.pulse_parts.specs.Arguments.{isWaiting, needed}
 use Rattle.pulse_parts.specs.Codes.{ignored, isReport, reportError, reportNextBit, reportStatus, reportVendor, softReset, supported}
 use Rattle.pulse_parts.specs.Errors.{illegalInReport, newCartridgePending, undefinedCommand}
 use Rattle.pulse_parts.specs.Faults.{errorHeld}
-use Rattle.pulse_parts.specs.Heads.{isLoad, isStill}
+use Rattle.pulse_parts.specs.Heads.{isRun, isStill}
 use Rattle.pulse_parts.specs.Reports.{isOpen, noReport}
 use Rattle.pulse.specs.declared.calls.Step.{Step}
 use Rattle.pulse.specs.declared.drive.Drive.{Drive}
@@ -45,8 +45,8 @@ unfolding latched
 latch-stays d e n m y =
     either (Stays (d .head)) (errorHeld (d .fault)) _ _ (λ p. refl)
     (λ p.
-    either (Stays (d .head)) (isLoad (d .head .motion)) _ _ (λ q. refl)
-    (λ q. held-same (d .head .place) (d .head .target) (d .head .track) (d .head .motion) m y))
+    either (Stays (d .head)) (isRun (d .head .motion)) _ _
+    (λ q. held-same (d .head .place) (d .head .target) (d .head .track) (d .head .motion) m y) (λ q. refl))
 
 pub item-stays : (d : Drive) → Stays (d .head) (itemGiven d)
 unfolding itemGiven

@@ -14,7 +14,7 @@ use Rattle.pulse_parts.specs.Codes.{ignored, isReport, reportError, reportNextB
 use Rattle.pulse_parts.specs.Reports.{isOpen}
 use Rattle.pulse.specs.declared.calls.Step.{Step}
 use Rattle.pulse.specs.declared.drive.Drive.{Drive}
-use Rattle.pulse.specs.Calls.{brokenRecord, insertCall, notRefused, outsideRanges, removeCall, tickCall, trainCall}
+use Rattle.pulse.specs.Calls.{rulesBroken, insertCall, notRefused, outsideRanges, removeCall, tickCall, trainCall}
 use Rattle.pulse.specs.Drives.{powerOn}
 use Rattle.pulse.specs.Rules.{inRanges}
 
@@ -106,7 +106,7 @@ outsideItsRanges cart place = not (inRanges cart && (place ≤ᵇ cart .segments
 
 -- 01: "Pulse order: 8, then 7 or 5, then 6.": each number exactly under its condition with no earlier one holding, 0 exactly under none
 pub record Exactly (number : ℕ) (broken : Bool) (second : ℕ) (secondHolds : Bool) (outside : Bool) : Type 0 where
-  pub eight : (number ≡ brokenRecord) ↔ (broken ≡ true)
+  pub eight : (number ≡ rulesBroken) ↔ (broken ≡ true)
   pub next : (number ≡ second) ↔ ((broken ≡ false) × (secondHolds ≡ true))
   pub six : (number ≡ outsideRanges) ↔ ((broken ≡ false) × (secondHolds ≡ false) × (outside ≡ true))
   pub zero : (number ≡ notRefused) ↔ ((broken ≡ false) × (secondHolds ≡ false) × (outside ≡ false))

@@ -28,7 +28,8 @@ pub extern "C" fn tapecard_packet(
     buf: &mut [u8],
     answer: &mut [u8; 16],
 )
-    ensures { λ _. ⌜ packetCard (now (state .exit)) (now (image .exit)) (now (buf .exit)) (now (answer .exit)) ≡ packetCall (now (state .entry)) (now (image .entry)) (now (packet .entry)) (now (buf .entry)) ⌝ }
+    ensures { λ _. ⌜ packetCard (now (state .exit)) (now (image .exit)) (now (buf .exit)) (now (answer .exit))
+        ≡ packetCall (now (state .entry)) (now (image .entry)) (now (packet .entry)) (now (buf .entry)) ⌝ }
 {
     let before = decode_state(state);
     let outcome = stream::packet(image, before, packet, buf);
