@@ -8,13 +8,12 @@ use native.Mathlib.Omega.{arith}
 use borrow.Author.Tests.{eq-eqb, ne-eqb, eqb-true}
 use Rattle.numbers.specs.Choice.{_≡ᵇ_}
 use Rattle.numbers.specs.Member.{isIn}
-use Rattle.pulse_laws.proofs.Bools.{never, or-by}
 use Rattle.stream_parts.specs.declared.state.Attention.{Attention}
 use Rattle.stream_parts.specs.declared.state.Attention.the-variants.{Nothing, MediumChanged, Reset}
 use Rattle.pulse_parts.specs.declared.head.Motion.{Motion}
 use Rattle.pulse_parts.specs.declared.head.Motion.the-variants.{Still, Run, Load}
-use Rattle.pulse_parts.specs.Reports.{bit}
 use Rattle.numbers.specs.Flags.{isSet, weightOf}
+use Rattle.numbers.proofs.Cases.{never, or-by}
 use Rattle.packet_record.specs.PacketRecord.{attentionOf, attentionByte}
 use Rattle.pulse_record.specs.PulseRecord.{motionOf, motionByte, unsent}
 
@@ -40,22 +39,25 @@ in-largest x (y ∷ ys) e = or-by (y ≡ᵇ x) (isIn x ys) e (λ p. omega (arith
 
 -- ---- flags
 
-weight-is : (b : Bool) (weight : ℕ) → weightOf b weight ≡ bit b * weight
+abbrev one : Bool → ℕ
+one b = weightOf b 1
+
+weight-is : (b : Bool) (weight : ℕ) → weightOf b weight ≡ one b * weight
 weight-is true weight = omega arith
 weight-is false weight = omega arith
 
-pub bit-most : (b : Bool) → bit b ≤ 1
-bit-most true = omega arith
-bit-most false = omega arith
+pub weight-most : (b : Bool) (weight : ℕ) → weightOf b weight ≤ weight
+weight-most true weight = omega arith
+weight-most false weight = omega arith
 
-set-by : (x : ℕ) (b : Bool) → x ≡ bit b → (x ≡ᵇ 1) ≡ b
+set-by : (x : ℕ) (b : Bool) → x ≡ one b → (x ≡ᵇ 1) ≡ b
 set-by x true e = eq-eqb x 1 e
 set-by x false e = rw e
 
-three : (p q r x : ℕ) → p ≤ 1 → q ≤ 1 → r ≤ 1 → x ≡ p * 1 + q * 2 + r * 4 → (x / 1 % 2 ≡ p) × ((x / 2 % 2 ≡ q) × (x / 4 % 2 ≡ r))
+three : (p q r x : ℕ) → p ≤ 1 → q ≤ 1 → r ≤ 1 → x ≡ p + q * 2 + r * 4 → (x / 1 % 2 ≡ p) × ((x / 2 % 2 ≡ q) × (x / 4 % 2 ≡ r))
 three p q r x hp hq hr e = (omega arith, (omega arith, omega arith))
 
-five : (p q r s t x : ℕ) → p ≤ 1 → q ≤ 1 → r ≤ 1 → s ≤ 1 → t ≤ 1 → x ≡ p * 1 + q * 2 + r * 4 + s * 8 + t * 16
+five : (p q r s t x : ℕ) → p ≤ 1 → q ≤ 1 → r ≤ 1 → s ≤ 1 → t ≤ 1 → x ≡ p + q * 2 + r * 4 + s * 8 + t * 16
     → (x / 1 % 2 ≡ p) × ((x / 2 % 2 ≡ q) × ((x / 4 % 2 ≡ r) × ((x / 8 % 2 ≡ s) × (x / 16 % 2 ≡ t))))
 five p q r s t x hp hq hr hs ht e = (omega arith, (omega arith, (omega arith, (omega arith, omega arith))))
 
@@ -63,8 +65,8 @@ module _ (a b c : Bool) where
   abbrev pub threeFlags : ℕ
   threeFlags = weightOf a 1 + weightOf b 2 + weightOf c 4
 
-  three-bits : (threeFlags / 1 % 2 ≡ bit a) × ((threeFlags / 2 % 2 ≡ bit b) × (threeFlags / 4 % 2 ≡ bit c))
-  three-bits = three (bit a) (bit b) (bit c) threeFlags (bit-most a) (bit-most b) (bit-most c) (rw (weight-is a 1, weight-is b 2, weight-is c 4))
+  three-bits : (threeFlags / 1 % 2 ≡ one a) × ((threeFlags / 2 % 2 ≡ one b) × (threeFlags / 4 % 2 ≡ one c))
+  three-bits = three (one a) (one b) (one c) threeFlags (weight-most a 1) (weight-most b 1) (weight-most c 1) (rw (weight-is b 2, weight-is c 4))
 
   pub three-back : (isSet threeFlags 1 ≡ a) × ((isSet threeFlags 2 ≡ b) × (isSet threeFlags 4 ≡ c))
   three-back = (set-by _ a (three-bits .0), (set-by _ b (three-bits .1 .0), set-by _ c (three-bits .1 .1)))
@@ -73,10 +75,10 @@ module _ (a b c d e : Bool) where
   abbrev pub fiveFlags : ℕ
   fiveFlags = weightOf a 1 + weightOf b 2 + weightOf c 4 + weightOf d 8 + weightOf e 16
 
-  five-bits : (fiveFlags / 1 % 2 ≡ bit a) × ((fiveFlags / 2 % 2 ≡ bit b) × ((fiveFlags / 4 % 2 ≡ bit c) × ((fiveFlags / 8 % 2 ≡ bit d) × (fiveFlags / 16 % 2 ≡ bit e))))
+  five-bits : (fiveFlags / 1 % 2 ≡ one a) × ((fiveFlags / 2 % 2 ≡ one b) × ((fiveFlags / 4 % 2 ≡ one c) × ((fiveFlags / 8 % 2 ≡ one d) × (fiveFlags / 16 % 2 ≡ one e))))
   five-bits =
-      five (bit a) (bit b) (bit c) (bit d) (bit e) fiveFlags (bit-most a) (bit-most b) (bit-most c) (bit-most d) (bit-most e)
-      (rw (weight-is a 1, weight-is b 2, weight-is c 4, weight-is d 8, weight-is e 16))
+      five (one a) (one b) (one c) (one d) (one e) fiveFlags (weight-most a 1) (weight-most b 1) (weight-most c 1) (weight-most d 1) (weight-most e 1)
+      (rw (weight-is b 2, weight-is c 4, weight-is d 8, weight-is e 16))
 
   pub five-back : (isSet fiveFlags 1 ≡ a) × ((isSet fiveFlags 2 ≡ b) × ((isSet fiveFlags 4 ≡ c) × ((isSet fiveFlags 8 ≡ d) × (isSet fiveFlags 16 ≡ e))))
   five-back = (

@@ -19,30 +19,30 @@ use Rattle.pulse_parts.specs.Errors.{admittedErrors}
 use Rattle.pulse_parts.specs.Reports.{mostItems}
 use Rattle.pulse.specs.declared.drive.Drive.{Drive}
 use Rattle.pulse.specs.Rules.{isFree, keepsRules, maxFormat, maxKind, maxTracks}
-use Rattle.pulse_laws.proofs.Bools.{ands, or-by, test}
 use Rattle.pulse_laws.proofs.Rules.{Cart, full, bare, to-rules}
 use Rattle.numbers.specs.Flags.{weightOf}
+use Rattle.numbers.proofs.Cases.{ands, or-by, test}
 use Rattle.pulse_record.specs.PulseRecord.{motionByte, waitedCode, encodeDrive}
 use Rattle.card_laws.specs.Promises.{Bytes, FitsBytes}
 use Rattle.card_laws.proofs.ByteLaws.{largest, in-largest}
 use Rattle.card_laws.proofs.CycleLaws.{few-held}
 
 -- a list of bytes, by its first and its rest
-data All : List ℕ → Type 0 where
+pub data All : List ℕ → Type 0 where
   none : All []
   next : {x : ℕ} {xs : List ℕ} → x < 256 → All xs → All (x ∷ xs)
 
-word : (v : ℕ) {xs : List ℕ} → All xs → All (countBytes 2 v ++ xs)
+pub word : (v : ℕ) {xs : List ℕ} → All xs → All (countBytes 2 v ++ xs)
 word v a = next {x = v / 256 % 256} (omega arith) (next {x = v % 256} (omega arith) a)
 
-bytes-of : {s : List ℕ} → All s → Bytes s
+pub bytes-of : {s : List ℕ} → All s → Bytes s
 bytes-of none i = omega arith
 bytes-of (next l a) zero = l
 bytes-of (next l a) (suc i) = bytes-of a i
 
 -- ---- the numbers of a drive that keeps the rules
 
-flag-most : (b : Bool) (weight : ℕ) → weightOf b weight ≤ weight
+pub flag-most : (b : Bool) (weight : ℕ) → weightOf b weight ≤ weight
 flag-most true weight = omega arith
 flag-most false weight = omega arith
 

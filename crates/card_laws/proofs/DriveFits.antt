@@ -7,6 +7,7 @@ use native.Mathlib.Nat.{pow-le-pow-right, zero-lt-suc}
 use native.Mathlib.Omega.{arith}
 use borrow.Author.Tests.{ne-eqb, leb-true, leb-false, ltb-true, ltb-false, not-false}
 use Rattle.numbers.specs.Choice.{_≡ᵇ_, _<ᵇ_, _≤ᵇ_}
+use Rattle.numbers.proofs.Cases.{ands, either, test}
 use Rattle.pulse_parts.specs.declared.arguments.Waiting.{Waiting}
 use Rattle.pulse_parts.specs.declared.arguments.Waiting.the-variants.{Nothing, For}
 use Rattle.pulse_parts.specs.declared.cartridge.Cartridge.{Cartridge}
@@ -19,7 +20,7 @@ use Rattle.pulse_parts.specs.Cartridges.{noCartridge}
 use Rattle.pulse_parts.specs.Codes.{ignored, isReport, logicalForward, needsCartridge, needsReference, pause, physicalForward, physicalReverse, reportConfiguration, reportError, reportNextBit, reportRom, reportStatus, reportVendor, seekLoadPoint, seekTrack, selectRate, skipExtendedReverse, skipReverse, softReset, stopTape, stopsMotion, supported}
 use Rattle.pulse_parts.specs.Errors.{admittedErrors, cartridgeMissing, illegalInReport, illegalTrack, newCartridgePending, noError, notReady, notReferenced, softwareReset, undefinedCommand}
 use Rattle.pulse_parts.specs.Faults.{errorHeld}
-use Rattle.pulse_parts.specs.Heads.{atStart, isLoad, isRun, isStill, standingAt}
+use Rattle.pulse_parts.specs.Heads.{atStart, isRun, isStill, standingAt}
 use Rattle.pulse_parts.specs.Marking.{newMarks, noMarks}
 use Rattle.pulse_parts.specs.Reports.{extraLength, isOpen, itemsLeft, noReport, owing, qic80, statusBits, configurationBits, tapeBits}
 use Rattle.pulse.specs.declared.calls.Step.{Step}
@@ -34,12 +35,12 @@ use Rattle.pulse.specs.Motions.{arrived, latched, loadStarted, runStarted, stop
 use Rattle.pulse.specs.Reports.{errorRead, itemGiven, opened, reportBroken, reportOf, statusAsked, stepOpenReport, stepReport}
 use Rattle.pulse.specs.Rules.{maxFormat, maxKind}
 use Rattle.pulse.specs.Train.{cleared, stepReset, stepUnsupported, trainStep}
-use Rattle.pulse_laws.proofs.Bools.{ands, either, test}
 use Rattle.pulse_laws.proofs.Calls.{insert-by, remove-by, tick-by, train-by, wait-by}
 use Rattle.pulse_laws.proofs.Commands.{supported-low}
+use Rattle.pulse_laws.proofs.Motion.{ended}
 use Rattle.pulse_laws.proofs.Rules.{Calm, Cart, bare, full, to-rules}
 use Rattle.card_laws.specs.Promises.{FitsBytes, HeldAlone}
-use Rattle.card_laws.proofs.ByteLaws.{bit-most, largest, in-largest}
+use Rattle.card_laws.proofs.ByteLaws.{largest, in-largest, weight-most}
 
 -- a drive of which only the numbers that must fit are kept: a step that leaves these leaves their facts
 abbrev numbersOf : Drive → Drive
@@ -100,12 +101,12 @@ module _ (d : Drive) (f : Fit d) where
   unfolding latched
   latch-fit error command l =
       let x = fault-fit error command l in
-      either Fit (errorHeld (d .fault)) _ _ (λ p. f) (λ p. either Fit (isLoad (d .head .motion)) _ _ (λ q. x) (λ q. x))
+      either Fit (errorHeld (d .fault)) _ _ (λ p. f) (λ p. either Fit (isRun (d .head .motion)) _ _ (λ q. x) (λ q. x))
 
   arrive-fit : Fit (arrived d)
   unfolding arrived
   arrive-fit =
-      either Fit (d .head .place ≡ᵇ d .head .target) _ _ (λ e. either Fit (isLoad (d .head .motion)) _ _ (λ l. f) (λ l. f)) (λ e. f)
+      either Fit (d .head .place ≡ᵇ d .head .target) _ _ (λ e. ended Fit (d .head .motion) d (λ s. f) (λ s. f) (λ s. f)) (λ e. f)
 
 -- report and arguments are dropped
 dropped-fit : (d : Drive) → Fit d → Fit (withReport (withoutArguments d) noReport)
@@ -206,19 +207,23 @@ status-low : (h : Head) (x : Fault) (m : Marks) (c : Cartridge) → statusBits h
 status-low h x m c =
     omega (
       arith,
-      bit-most (isStill (h .motion)),
-      bit-most (errorHeld x),
-      bit-most (m .inside),
-      bit-most (c .protected),
-      bit-most (m .fresh),
-      bit-most (m .referenced),
-      bit-most (m .inside && (h .place ≡ᵇ 0)),
-      bit-most (m .inside && (h .place ≡ᵇ c .segments)),
+      weight-most (isStill (h .motion)) 1,
+      weight-most (errorHeld x) 2,
+      weight-most (m .inside) 4,
+      weight-most (c .protected) 8,
+      weight-most (m .fresh) 16,
+      weight-most (m .referenced) 32,
+      weight-most (m .inside && (h .place ≡ᵇ 0)) 64,
+      weight-most (m .inside && (h .place ≡ᵇ c .segments)) 128,
     )
 
 configuration-low : (rate : ℕ) (m : Marks) (c : Cartridge) → rate ≤ highestRate → configurationBits rate m c < 2 ^ 16
 configuration-low rate m c l =
-    omega (arith, bit-most (m .referenced && (c .kind ≡ᵇ extraLength)), bit-most (m .referenced && (c .format ≡ᵇ qic80)))
+    omega (
+      arith,
+      weight-most (m .referenced && (c .kind ≡ᵇ extraLength)) 64,
+      weight-most (m .referenced && (c .format ≡ᵇ qic80)) 128,
+    )
 
 -- no format or type is sent without a cartridge
 tape-low : (m : Marks) (c : Cartridge) {s t k : ℕ} {i f : Bool} → Cart c s t k i (m .referenced) f → tapeBits m c < 2 ^ 16
@@ -226,9 +231,9 @@ tape-low m c (full p w) =
     let r = w .ranges in
     let format = leb-true (c .format) maxFormat (search ands depth 7) in
     let kind = leb-true (c .kind) maxKind (search ands depth 7) in
-    let wide = bit-most (c .wide) in
+    let wide = weight-most (c .wide) 128 in
     either (λ x. x < 2 ^ 16) (m .referenced) _ _ (λ e. omega arith) (λ e. omega arith)
-tape-low m c (bare p w) = rw (w .referenced) (omega (arith, bit-most (c .wide)))
+tape-low m c (bare p w) = rw (w .referenced) (omega (arith, weight-most (c .wide) 128))
 
 module _ (d : Drive) (n : ℕ) (r : Calm d) (f : Fit d) where
   report-sound : Sound (reportOf d n)

@@ -3,7 +3,7 @@
 use mathlib.Core.Path.{_≡_}
 use mathlib.Core.Bool.{true}
 use mathlib.Core.List.{List, map}
-use Prim.Native.Nat.{ℕ, _^_, _<_}
+use Prim.Native.Nat.{ℕ, _^_, _<_, _≤_}
 use lib.ListN.{getD}
 use Rattle.stream_parts.specs.declared.state.State.{State}
 use Rattle.pulse_parts.specs.declared.arguments.Waiting.{Waiting}
@@ -12,17 +12,20 @@ use Rattle.pulse.specs.declared.drive.Drive.{Drive}
 use Rattle.pulse.specs.Calls.{trainCall, tickCall, insertCall, removeCall, waitCall}
 use Rattle.pulse.specs.Drives.{powerOn}
 use Rattle.pulse.specs.Rules.{keepsRules}
-use Rattle.pulse_laws.specs.Demands.{Recovered}
-use Rattle.pulse_laws.specs.Runs.{Settles, answers, recoveryTrains, silentTicks}
-use Rattle.card_laws.specs.Sessions.{answersOn, ticksOn, told, trainsOn}
+use Rattle.pulse_laws.specs.Demands.{Recovered, Regained}
+use Rattle.pulse_laws.specs.Runs.{answers, pacedAnswers, recoveryTrains, silentTicks}
+use Rattle.card_laws.specs.Sessions.{answersOn, pacedAnswersOn, pacedOn, ticksOn, told, trainsOn}
 use Rattle.stream_parts.specs.States.{freshState, changedState}
 use Rattle.stream.specs.Packet.{packetStep}
 use Rattle.stream_laws.specs.Words.{stateOf, blocksOf, bytesOf}
 use Rattle.numbers.specs.Counts.{countAt}
+use Rattle.numbers.specs.Outcomes.{Settles}
 use Rattle.packet_record.specs.PacketRecord.{decodeState, encodeState}
 use Rattle.tapecard.specs.PacketCalls.{packetCard, packetFresh, packetChange, packetCall}
+use Rattle.tapecard.specs.PacketCalls.{PacketFreshPromise, PacketChangePromise, PacketCallPromise}
 use Rattle.pulse_record.specs.PulseRecord.{decodeDrive, encodeDrive, describedCartridge, describedPlace}
 use Rattle.tapecard.specs.PulseCalls.{PulseCard, pulsePowerOn, pulseTrain, pulseTick, pulseInsert, pulseRemove, pulseWait}
+use Rattle.tapecard.specs.PulseCalls.{PulsePowerOnPromise, PulseTrainPromise, PulseTickPromise, PulseInsertPromise, PulseRemovePromise, PulseWaitPromise}
 
 -- ---- "A refused call (number not 0) leaves the record's bytes, the image and every buffer exactly as they were; only the answer is written."
 
@@ -119,6 +122,13 @@ pub record StaysBytes : Type 0 where
   pub remove : (state : List ℕ) → Bytes state → Bytes (pulseRemove state .state)
   pub wait : (state : List ℕ) (limit : ℕ) → Bytes state → Bytes (pulseWait state limit .state)
 
+-- and so with the packet drive's record; its answer is bytes too
+pub record PacketStaysBytes : Type 0 where
+  pub fresh : Bytes packetFresh
+  pub change : (state : List ℕ) → Bytes (packetChange state)
+  pub packet : (state image packet buf : List ℕ) → Bytes state → Bytes (packetCall state image packet buf .state)
+  pub answer : (state image packet buf : List ℕ) → Bytes (packetCall state image packet buf .answer)
+
 -- "From any reachable pulse state with a cartridge in: after as many silent ticks as a track has segments, the 46 recovery trains ..", on the bytes
 -- themselves: whatever 32 bytes spell a drive that keeps the rules, with a cartridge in
 pub record BytesRecovered (before rested last : List ℕ) : Type 0 where
@@ -130,6 +140,17 @@ CardRecovers =
     (state : List ℕ) → Bytes state → keepsRules (decodeDrive state) ≡ true → decodeDrive state .marks .inside ≡ true
     → BytesRecovered state (ticksOn (silentTicks (decodeDrive state)) state)
     (trainsOn (ticksOn (silentTicks (decodeDrive state)) state) recoveryTrains)
+
+-- the same at any pace: any number of tick calls from G up, and any number before each train
+pub record BytesRegained (pauses : ℕ → ℕ) (before rested last : List ℕ) : Type 0 where
+  pub drive : Regained (pacedAnswers pauses (decodeDrive rested) recoveryTrains) (decodeDrive before) (decodeDrive rested) (decodeDrive last)
+  pub answered : pacedAnswersOn pauses rested recoveryTrains ≡ map told (pacedAnswers pauses (decodeDrive rested) recoveryTrains)
+
+abbrev pub CardRecoversAtAnyPace : Type 0
+CardRecoversAtAnyPace =
+    (state : List ℕ) (k : ℕ) (pauses : ℕ → ℕ) → Bytes state
+    → keepsRules (decodeDrive state) ≡ true → decodeDrive state .marks .inside ≡ true → silentTicks (decodeDrive state) ≤ k
+    → BytesRegained pauses state (ticksOn k state) (pacedOn pauses (ticksOn k state) recoveryTrains)
 
 -- and no count of an answer is cut: "4-7 blocks; 8-11 bytes" of a packet, "4-7 ticks" of a wait
 
@@ -143,12 +164,12 @@ pub record CountsWhole : Type 0 where
 -- ---- 01: "Prove that any two outcomes allowed by it coincide"
 
 pub record Settled : Type 0 where
-  pub fresh : Settles packetFresh
-  pub change : (state : List ℕ) → Settles (packetChange state)
-  pub packet : (state image packet buf : List ℕ) → Settles (packetCall state image packet buf)
-  pub power-on : (vendor rom : ℕ) → Settles (pulsePowerOn vendor rom)
-  pub train : (state : List ℕ) (pulses : ℕ) → Settles (pulseTrain state pulses)
-  pub tick : (state : List ℕ) → Settles (pulseTick state)
-  pub insert : (state cartridge : List ℕ) → Settles (pulseInsert state cartridge)
-  pub remove : (state : List ℕ) → Settles (pulseRemove state)
-  pub wait : (state : List ℕ) (limit : ℕ) → Settles (pulseWait state limit)
+  pub fresh : Settles PacketFreshPromise
+  pub change : (state : List ℕ) → Settles (PacketChangePromise state)
+  pub packet : (state image packet buf : List ℕ) → Settles (PacketCallPromise state image packet buf)
+  pub power-on : (vendor rom : ℕ) → Settles (PulsePowerOnPromise vendor rom)
+  pub train : (state : List ℕ) (pulses : ℕ) → Settles (PulseTrainPromise state pulses)
+  pub tick : (state : List ℕ) → Settles (PulseTickPromise state)
+  pub insert : (state cartridge : List ℕ) → Settles (PulseInsertPromise state cartridge)
+  pub remove : (state : List ℕ) → Settles (PulseRemovePromise state)
+  pub wait : (state : List ℕ) (limit : ℕ) → Settles (PulseWaitPromise state limit)

@@ -4,6 +4,8 @@ use Prim.Native.Nat.{ℕ}
 use mathlib.Core.Bool.{Bool, false}
 use Rattle.pulse_parts.specs.declared.arguments.Waiting.{Waiting}
 use Rattle.pulse_parts.specs.declared.arguments.Waiting.the-variants.{Nothing}
+use Rattle.pulse_parts.specs.declared.cartridge.Cartridge.{Cartridge}
+use Rattle.pulse_parts.specs.declared.fault.Fault.{Fault}
 use Rattle.pulse_parts.specs.declared.head.Head.{Head}
 use Rattle.pulse_parts.specs.declared.marks.Marks.{Marks}
 use Rattle.pulse_parts.specs.declared.reports.Report.{Report}
@@ -42,26 +44,45 @@ powerOn vendor rom =
 abbrev pub isReady : Drive → Bool
 isReady d = isStill (d .head .motion)
 
+-- a drive of its ten parts
+abbrev pub driveOf : Cartridge → Head → Marks → Fault → Report → Waiting → ℕ → Bool → ℕ → ℕ → Drive
+driveOf cart head marks fault report waiting rate level vendor rom =
+    record {
+      cart = cart;
+      head = head;
+      marks = marks;
+      fault = fault;
+      report = report;
+      waiting = waiting;
+      rate = rate;
+      level = level;
+      vendor = vendor;
+      rom = rom;
+    }
+
+-- the drive with one part replaced
 abbrev pub withHead : Drive → Head → Drive
-withHead d x = record { cart = d .cart; head = x; marks = d .marks; fault = d .fault; report = d .report; waiting = d .waiting; rate = d .rate; level = d .level; vendor = d .vendor; rom = d .rom }
+withHead d x = driveOf (d .cart) x (d .marks) (d .fault) (d .report) (d .waiting) (d .rate) (d .level) (d .vendor) (d .rom)
 
 abbrev pub withMarks : Drive → Marks → Drive
-withMarks d x = record { cart = d .cart; head = d .head; marks = x; fault = d .fault; report = d .report; waiting = d .waiting; rate = d .rate; level = d .level; vendor = d .vendor; rom = d .rom }
+withMarks d x = driveOf (d .cart) (d .head) x (d .fault) (d .report) (d .waiting) (d .rate) (d .level) (d .vendor) (d .rom)
 
 abbrev pub withFault : Drive → ℕ → ℕ → Drive
-withFault d error command = record { cart = d .cart; head = d .head; marks = d .marks; fault = record { error = error; command = command }; report = d .report; waiting = d .waiting; rate = d .rate; level = d .level; vendor = d .vendor; rom = d .rom }
+withFault d error command =
+    driveOf (d .cart) (d .head) (d .marks) record { error = error; command = command } (d .report) (d .waiting) (d .rate) (d .level)
+    (d .vendor) (d .rom)
 
 abbrev pub withReport : Drive → Report → Drive
-withReport d x = record { cart = d .cart; head = d .head; marks = d .marks; fault = d .fault; report = x; waiting = d .waiting; rate = d .rate; level = d .level; vendor = d .vendor; rom = d .rom }
+withReport d x = driveOf (d .cart) (d .head) (d .marks) (d .fault) x (d .waiting) (d .rate) (d .level) (d .vendor) (d .rom)
 
 abbrev pub withWaiting : Drive → Waiting → Drive
-withWaiting d x = record { cart = d .cart; head = d .head; marks = d .marks; fault = d .fault; report = d .report; waiting = x; rate = d .rate; level = d .level; vendor = d .vendor; rom = d .rom }
+withWaiting d x = driveOf (d .cart) (d .head) (d .marks) (d .fault) (d .report) x (d .rate) (d .level) (d .vendor) (d .rom)
 
 abbrev pub withoutArguments : Drive → Drive
 withoutArguments d = withWaiting d Nothing
 
 abbrev pub withRate : Drive → ℕ → Drive
-withRate d x = record { cart = d .cart; head = d .head; marks = d .marks; fault = d .fault; report = d .report; waiting = d .waiting; rate = x; level = d .level; vendor = d .vendor; rom = d .rom }
+withRate d x = driveOf (d .cart) (d .head) (d .marks) (d .fault) (d .report) (d .waiting) x (d .level) (d .vendor) (d .rom)
 
 abbrev pub withLevel : Drive → Bool → Drive
-withLevel d x = record { cart = d .cart; head = d .head; marks = d .marks; fault = d .fault; report = d .report; waiting = d .waiting; rate = d .rate; level = x; vendor = d .vendor; rom = d .rom }
+withLevel d x = driveOf (d .cart) (d .head) (d .marks) (d .fault) (d .report) (d .waiting) (d .rate) x (d .vendor) (d .rom)

@@ -12,12 +12,12 @@ use Rattle.pulse_parts.specs.Heads.{atStart, standingAt}
 use Rattle.pulse_parts.specs.Marking.{newMarks, noMarks}
 use Rattle.pulse_parts.specs.Reports.{noReport}
 use Rattle.pulse.specs.declared.drive.Drive.{Drive}
-use Rattle.pulse.specs.Drives.{isReady, noCommand}
+use Rattle.pulse.specs.Drives.{driveOf, isReady, noCommand}
 use Rattle.pulse.specs.Motions.{latched, loadStarted, ticked}
 
 -- another cartridge, or none. 01: "Both drop report and arguments, and forget that status was asked."
 abbrev pub exchanged : Drive → Cartridge → Head → Marks → Drive
-exchanged d cart head marks = record { cart = cart; head = head; marks = marks; fault = d .fault; report = noReport; waiting = Nothing; rate = d .rate; level = d .level; vendor = d .vendor; rom = d .rom }
+exchanged d cart head marks = driveOf cart head marks (d .fault) noReport Nothing (d .rate) (d .level) (d .vendor) (d .rom)
 
 -- 01: "Insertion: S as described, track 0, new mark, load starts."
 unfoldable pub inserted : Drive → Cartridge → ℕ → Drive

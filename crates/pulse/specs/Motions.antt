@@ -2,9 +2,10 @@
 -- Assumes nothing.
 use Prim.Native.Nat.{ℕ}
 use Rattle.numbers.specs.Choice.{if_then_else_, _≡ᵇ_}
-use Rattle.pulse_parts.specs.declared.head.Motion.the-variants.{Run, Load}
+use Rattle.pulse_parts.specs.declared.head.Motion.{Motion}
+use Rattle.pulse_parts.specs.declared.head.Motion.the-variants.{Still, Run, Load}
 use Rattle.pulse_parts.specs.Faults.{errorHeld}
-use Rattle.pulse_parts.specs.Heads.{atStart, heldAt, headedFor, isLoad, stoodAt, toward}
+use Rattle.pulse_parts.specs.Heads.{atStart, heldAt, headedFor, isRun, stoodAt, toward}
 use Rattle.pulse_parts.specs.Marking.{markReferenced}
 use Rattle.pulse.specs.declared.drive.Drive.{Drive}
 use Rattle.pulse.specs.Drives.{isReady, withFault, withHead, withMarks, withoutArguments}
@@ -32,13 +33,19 @@ runStarted d target =
 unfoldable pub latched : Drive → ℕ → ℕ → Drive
 latched d error command =
     if errorHeld (d .fault) then d else
-    if isLoad (d .head .motion) then withFault d error command else
-    stopped (withFault d error command)
+    if isRun (d .head .motion) then stopped (withFault d error command) else
+    withFault d error command
+
+-- how each motion ends
+abbrev pub motionEnded : Motion → Drive → Drive
+motionEnded Still d = d
+motionEnded Run d = stopped d
+motionEnded Load d = loadEnded d
 
 -- 01: "at the target motion ends"
 unfoldable pub arrived : Drive → Drive
 arrived d =
-    if d .head .place ≡ᵇ d .head .target then (if isLoad (d .head .motion) then loadEnded d else stopped d) else
+    if d .head .place ≡ᵇ d .head .target then motionEnded (d .head .motion) d else
     d
 
 -- 01: "A tick drops unfinished arguments and moves S one toward the target"

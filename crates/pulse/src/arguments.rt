@@ -3,7 +3,7 @@ ghost use mathlib.Core.Path.{_≡_};
 ghost use mathlib.Core.Bool.{true};
 ghost use Prim.Native.Nat.{_≤_};
 ghost use Rattle.pulse_parts.specs.Arguments.{inRange, highestNibble};
-ghost use Rattle.pulse.specs.Arguments.{trackSought, skipped, nibbleTaken, argumentTaken, argumentRead, stepArgument};
+ghost use Rattle.pulse.specs.Arguments.{trackSought, skipped, nibbleTaken, argumentTaken, stepArgument};
 use crate::drive::Drive;
 use pulse_parts::Nibble;
 use pulse_parts::Waiting;
@@ -16,11 +16,8 @@ impl Drive {
     fn seek_track(self, track: u16) -> Self
         ensures { λ r. ⌜ r ≡ trackSought self track ⌝ }
     {
-        let tracks = self.cart.tracks as u16;
-        if track < tracks {
-            let h = self.head;
-            let next = head::on_track(h, track as u8);
-            return self.with_head(next);
+        if track < self.cart.tracks as u16 {
+            return self.with_head(head::on_track(self.head, track as u8));
         }
         self.latch(errors::ILLEGAL_TRACK, codes::SEEK_TRACK as u8)
     }
@@ -28,16 +25,11 @@ impl Drive {
     fn skip(self, code: u8, count: u16) -> Self
         ensures { λ r. ⌜ r ≡ skipped self code count ⌝ }
     {
-        let n = code as u16;
-        let place = self.head.place;
-        let segments = self.cart.segments;
-        let back = (n == codes::SKIP_REVERSE) | (n == codes::SKIP_EXTENDED_REVERSE);
-        if back {
-            let target = head::skip_back(place, count);
-            return self.start_run(target);
+        match code {
+            // skips in reverse
+            25 | 34 => self.start_run(head::skip_back(self.head.place, count)),
+            _ => self.start_run(head::skip_on(self.head.place, self.cart.segments, count)),
         }
-        let target = head::skip_on(place, segments, count);
-        self.start_run(target)
     }
 
     fn take_nibble(self, code: u8, held: u8, low: u16, value: u16) -> Self
@@ -62,26 +54,18 @@ impl Drive {
         requires { ⌜ inRange code value ≡ true ⌝ }
         ensures { λ r. ⌜ r ≡ argumentTaken self code held low value ⌝ }
     {
-        let n = code as u16;
-        let track = n == codes::SEEK_TRACK;
-        if track {
-            return self.with_waiting(Waiting::Nothing).seek_track(value);
+        match code {
+            // seek track
+            13 => self.with_waiting(Waiting::Nothing).seek_track(value),
+            // select rate
+            27 => {
+                let rate = value as u8;
+                let mut d = self.with_waiting(Waiting::Nothing);
+                d.rate = rate;
+                d
+            }
+            _ => self.take_nibble(code, held, low, value),
         }
-        let rate = n == codes::SELECT_RATE;
-        if rate {
-            return self.with_waiting(Waiting::Nothing).with_rate(value as u8);
-        }
-        self.take_nibble(code, held, low, value)
-    }
-
-    fn read_argument(self, code: u8, held: u8, low: u16, n: u16) -> Self
-        ensures { λ r. ⌜ r ≡ argumentRead self code held low n ⌝ }
-    {
-        let read = arguments::read_nibble(code, n);
-        let Nibble::Value(value) = read else {
-            return self.with_waiting(Waiting::Nothing);
-        };
-        self.take_argument(code, held, low, value)
     }
 
     pub(crate) fn step_argument(self, n: u16) -> Self
@@ -90,7 +74,12 @@ impl Drive {
         let w = self.waiting;
         match w {
             Waiting::Nothing => self,
-            Waiting::For { code, held, value } => self.read_argument(code, held, value, n),
+            Waiting::For { code, held, value } => {
+                let Nibble::Value(nibble) = arguments::read_nibble(code, n) else {
+                    return self.with_waiting(Waiting::Nothing);
+                };
+                self.take_argument(code, held, value, nibble)
+            }
         }
     }
 }

@@ -1,20 +1,21 @@
 // The public calls, with their refusals. 01: "Pulse order: 8, then 7 or 5, then 6."
 ghost use mathlib.Core.Path.{_≡_};
+ghost use Rattle.pulse.specs.Calls.{refused, accepted, refusedWait, acceptedWait};
 ghost use Rattle.pulse.specs.Events.{runFor, stepsTo};
-ghost use Rattle.pulse.specs.Calls.{refused, accepted, acceptedWait, trainCall, tickCall, insertCall, removeCall, waitCall};
+ghost use Rattle.pulse.specs.Calls.{TrainPromise, TickPromise, InsertPromise, RemovePromise, WaitPromise};
 use crate::drive::Drive;
 use crate::rules;
 use pulse_parts::Cartridge;
 
-pub const NOT_REFUSED: u8 = 0;
+const NOT_REFUSED: u8 = 0;
 
-pub const EMPTY_TRAIN: u8 = 5;
+const EMPTY_TRAIN: u8 = 5;
 
-pub const OUTSIDE_RANGES: u8 = 6;
+const OUTSIDE_RANGES: u8 = 6;
 
-pub const ALREADY_SO: u8 = 7;
+const ALREADY_SO: u8 = 7;
 
-pub const BROKEN_RECORD: u8 = 8;
+const RULES_BROKEN: u8 = 8;
 
 pub struct Step {
     pub number: u8,
@@ -43,84 +44,78 @@ impl Drive {
     fn accept(self) -> Step
         ensures { λ r. ⌜ r ≡ accepted self ⌝ }
     {
-        let level = self.level;
         Step {
             number: NOT_REFUSED,
-            level: level,
+            level: self.level,
             drive: self,
         }
     }
 
     pub fn train(self, pulses: u16) -> Step
-        ensures { λ r. ⌜ r ≡ trainCall self pulses ⌝ }
+        ensures { λ r. ⌜ TrainPromise self pulses r ⌝ }
     {
-        let kept = self.keeps_rules();
-        let broken = !kept;
-        if broken {
-            return self.refuse(BROKEN_RECORD);
+        if self.breaks_rules() {
+            return self.refuse(RULES_BROKEN);
         }
-        let empty = pulses == 0;
-        if empty {
+        if pulses == 0 {
             return self.refuse(EMPTY_TRAIN);
         }
         self.train_step(pulses).accept()
     }
 
     pub fn tick(self) -> Step
-        ensures { λ r. ⌜ r ≡ tickCall self ⌝ }
+        ensures { λ r. ⌜ TickPromise self r ⌝ }
     {
-        let kept = self.keeps_rules();
-        let broken = !kept;
-        if broken {
-            return self.refuse(BROKEN_RECORD);
+        if self.breaks_rules() {
+            return self.refuse(RULES_BROKEN);
         }
         self.tick_step().accept()
     }
 
-    pub fn insert(self, c: Cartridge, place: u16) -> Step
-        ensures { λ r. ⌜ r ≡ insertCall self c place ⌝ }
+    pub fn insert(self, cart: Cartridge, place: u16) -> Step
+        ensures { λ r. ⌜ InsertPromise self cart place r ⌝ }
     {
-        let kept = self.keeps_rules();
-        let broken = !kept;
-        if broken {
-            return self.refuse(BROKEN_RECORD);
+        if self.breaks_rules() {
+            return self.refuse(RULES_BROKEN);
         }
-        let inside = self.marks.inside;
-        if inside {
+        if self.marks.inside {
             return self.refuse(ALREADY_SO);
         }
-        let segments = c.segments;
-        let ranges = rules::in_ranges(c);
-        let outside = !(ranges & (place <= segments));
-        if outside {
+        if rules::is_outside(cart, place) {
             return self.refuse(OUTSIDE_RANGES);
         }
-        self.insert_step(c, place).accept()
+        self.insert_step(cart, place).accept()
     }
 
     pub fn remove(self) -> Step
-        ensures { λ r. ⌜ r ≡ removeCall self ⌝ }
+        ensures { λ r. ⌜ RemovePromise self r ⌝ }
     {
-        let kept = self.keeps_rules();
-        let broken = !kept;
-        if broken {
-            return self.refuse(BROKEN_RECORD);
+        if self.breaks_rules() {
+            return self.refuse(RULES_BROKEN);
         }
-        let inside = self.marks.inside;
-        let none = !inside;
-        if none {
-            return self.refuse(ALREADY_SO);
+        if self.marks.inside {
+            return self.remove_step().accept();
         }
-        self.remove_step().accept()
+        self.refuse(ALREADY_SO)
+    }
+
+    fn refuse_wait(self, number: u8) -> Waited
+        ensures { λ r. ⌜ r ≡ refusedWait self number ⌝ }
+    {
+        Waited {
+            number: number,
+            level: false,
+            ticks: 0,
+            drive: self,
+        }
     }
 
     fn accept_wait(self, ticks: u32) -> Waited
         ensures { λ r. ⌜ r ≡ acceptedWait ticks self ⌝ }
     {
-        let level = self.level;
         Waited {
             number: NOT_REFUSED,
-            level: level,
+            level: self.level,
             ticks: ticks,
             drive: self,
         }
@@ -132,8 +127,7 @@ impl Drive {
         let mut now = self;
         let mut used: u32 = 0;
         while used < limit {
-            let ready = now.is_ready();
-            if ready {
+            if now.is_ready() {
                 return now.accept_wait(used);
             }
             now = now.tick_step();
@@ -143,17 +137,10 @@ impl Drive {
     }
 
     pub fn wait(self, limit: u32) -> Waited
-        ensures { λ r. ⌜ r ≡ waitCall self limit ⌝ }
+        ensures { λ r. ⌜ WaitPromise self limit r ⌝ }
     {
-        let kept = self.keeps_rules();
-        let broken = !kept;
-        if broken {
-            return Waited {
-                number: BROKEN_RECORD,
-                level: false,
-                ticks: 0,
-                drive: self,
-            };
+        if self.breaks_rules() {
+            return self.refuse_wait(RULES_BROKEN);
         }
         self.wait_step(limit)
     }

@@ -1,6 +1,7 @@
 // The drive record, power-on, and the record with one part replaced.
 ghost use mathlib.Core.Path.{_≡_};
-ghost use Rattle.pulse.specs.Drives.{powerOn, isReady, withHead, withMarks, withFault, withReport, withWaiting, withRate, withLevel};
+ghost use Rattle.pulse.specs.Calls.{PowerOnPromise};
+ghost use Rattle.pulse.specs.Drives.{isReady, withHead, withMarks, withFault, withReport, withWaiting, withLevel};
 use pulse_parts::Cartridge;
 use pulse_parts::Fault;
 use pulse_parts::Head;
@@ -41,7 +42,7 @@ impl Drive {
     pub const POWER_ON_RATE: u8 = 2;
 
     pub fn power_on(vendor: u16, rom: u8) -> Self
-        ensures { λ r. ⌜ r ≡ powerOn vendor rom ⌝ }
+        ensures { λ r. ⌜ PowerOnPromise vendor rom r ⌝ }
     {
         let cart = cartridge::no_cartridge();
         let head = head::standing_at(0);
@@ -68,9 +69,7 @@ impl Drive {
     pub(crate) fn is_ready(self) -> bool
         ensures { λ r. ⌜ r ≡ isReady self ⌝ }
     {
-        let h = self.head;
-        let m = h.motion;
-        head::is_still(m)
+        head::stands(self.head)
     }
 
     pub(crate) fn with_head(self, head: Head) -> Self
@@ -103,14 +102,6 @@ impl Drive {
     {
         let mut d = self;
         d.report = report;
-        d
-    }
-
-    pub(crate) fn with_rate(self, rate: u8) -> Self
-        ensures { λ r. ⌜ r ≡ withRate self rate ⌝ }
-    {
-        let mut d = self;
-        d.rate = rate;
         d
     }
 

@@ -36,25 +36,24 @@ impl Drive {
     pub(crate) fn insert_step(self, cart: Cartridge, place: u16) -> Self
         ensures { λ r. ⌜ r ≡ inserted self cart place ⌝ }
     {
-        let head = head::standing_at(place);
-        let marks = marks::new_marks();
-        self.exchange(cart, head, marks).start_load()
+        self.exchange(cart, head::standing_at(place), marks::new_marks())
+            .start_load()
     }
 
     fn empty(self) -> Self
         ensures { λ r. ⌜ r ≡ emptied self ⌝ }
     {
-        let cart = cartridge::no_cartridge();
-        let head = head::standing_at(0);
-        let marks = marks::no_marks();
-        self.exchange(cart, head, marks)
+        self.exchange(
+            cartridge::no_cartridge(),
+            head::standing_at(0),
+            marks::no_marks(),
+        )
     }
 
     pub(crate) fn remove_step(self) -> Self
         ensures { λ r. ⌜ r ≡ removed self ⌝ }
     {
-        let ready = self.is_ready();
-        if ready {
+        if self.is_ready() {
             return self.empty();
         }
         self.latch(errors::CARTRIDGE_MISSING, drive::NO_COMMAND)

@@ -1,6 +1,6 @@
 // What moves the tape, what stops it, and an error that is held.
 ghost use mathlib.Core.Path.{_≡_};
-ghost use Rattle.pulse.specs.Motions.{stopped, loadEnded, loadStarted, runStarted, latched, arrived, ticked};
+ghost use Rattle.pulse.specs.Motions.{stopped, loadEnded, loadStarted, runStarted, latched, motionEnded, arrived, ticked};
 use crate::drive::Drive;
 use pulse_parts::Motion;
 use pulse_parts::Waiting;
@@ -11,75 +11,64 @@ impl Drive {
     pub(crate) fn stop(self) -> Self
         ensures { λ r. ⌜ r ≡ stopped self ⌝ }
     {
-        let h = self.head;
-        let next = head::held_at(h);
-        self.with_head(next)
+        self.with_head(head::held_at(self.head))
     }
 
     pub(crate) fn end_load(self) -> Self
         ensures { λ r. ⌜ r ≡ loadEnded self ⌝ }
     {
-        let burst = self.cart.burst;
-        let start = head::standing_at(0);
-        let mut d = self.with_head(start);
-        d.marks.referenced = burst;
+        let mut d = self.with_head(head::standing_at(0));
+        d.marks.referenced = self.cart.burst;
         d
     }
 
     pub(crate) fn start_load(self) -> Self
         ensures { λ r. ⌜ r ≡ loadStarted self ⌝ }
     {
-        let h = self.head;
-        let there = h.place == 0;
-        if there {
+        if self.head.place == 0 {
             return self.end_load();
         }
-        let next = head::headed_for(h, 0, Motion::Load);
-        self.with_head(next)
+        self.with_head(head::headed_for(self.head, 0, Motion::Load))
     }
 
     pub(crate) fn start_run(self, target: u16) -> Self
         ensures { λ r. ⌜ r ≡ runStarted self target ⌝ }
     {
-        let h = self.head;
-        let there = h.place == target;
-        if there {
+        if self.head.place == target {
             return self.stop();
         }
-        let next = head::headed_for(h, target, Motion::Run);
-        self.with_head(next)
+        self.with_head(head::headed_for(self.head, target, Motion::Run))
     }
 
     pub(crate) fn latch(self, error: u8, command: u8) -> Self
         ensures { λ r. ⌜ r ≡ latched self error command ⌝ }
     {
-        let f = self.fault;
-        let held = fault::is_held(f);
-        if held {
+        if fault::is_held(self.fault) {
             return self;
         }
+        if head::runs(self.head) {
+            return self.with_fault(error, command).stop();
+        }
+        self.with_fault(error, command)
+    }
+
+    fn end_motion(self) -> Self
+        ensures { λ r. ⌜ r ≡ motionEnded (self .head .motion) self ⌝ }
+    {
         let h = self.head;
         let m = h.motion;
-        let load = head::is_load(m);
-        let d = self.with_fault(error, command);
-        if load {
-            return d;
+        match m {
+            Motion::Still => self,
+            Motion::Run => self.stop(),
+            Motion::Load => self.end_load(),
         }
-        d.stop()
     }
 
     fn arrive(self) -> Self
         ensures { λ r. ⌜ r ≡ arrived self ⌝ }
     {
-        let h = self.head;
-        let there = h.place == h.target;
-        if there {
-            let m = h.motion;
-            let load = head::is_load(m);
-            if load {
-                return self.end_load();
-            }
-            return self.stop();
+        if head::is_on_target(self.head) {
+            return self.end_motion();
         }
         self
     }
@@ -87,16 +76,11 @@ impl Drive {
     pub(crate) fn tick_step(self) -> Self
         ensures { λ r. ⌜ r ≡ ticked self ⌝ }
     {
-        let h = self.head;
-        let place = h.place;
-        let target = h.target;
-        let ready = self.is_ready();
-        let d = self.with_waiting(Waiting::Nothing);
-        if ready {
-            return d;
+        if self.is_ready() {
+            return self.with_waiting(Waiting::Nothing);
         }
-        let nearer = head::toward_target(place, target);
-        let next = head::stood_at(h, nearer);
-        d.with_head(next).arrive()
+        self.with_waiting(Waiting::Nothing)
+            .with_head(head::moved(self.head))
+            .arrive()
     }
 }

@@ -6,30 +6,26 @@ use pulse_parts::Waiting;
 use pulse_parts::arguments;
 use pulse_parts::codes;
 use pulse_parts::errors;
+use pulse_parts::marks;
 use pulse_parts::reports;
 
 impl Drive {
     fn clear(self) -> Self
         ensures { λ r. ⌜ r ≡ cleared self ⌝ }
     {
-        let none = reports::no_report();
-        let mut d = self.with_waiting(Waiting::Nothing)
-            .with_report(none)
-            .with_fault(errors::SOFTWARE_RESET, codes::SOFT_RESET as u8);
-        d.marks.referenced = false;
-        d.marks.asked = false;
-        d
+        self.with_waiting(Waiting::Nothing)
+            .with_report(reports::no_report())
+            .with_fault(errors::SOFTWARE_RESET, codes::SOFT_RESET as u8)
+            .with_marks(marks::forgotten(self.marks))
     }
 
     fn step_reset(self) -> Self
         ensures { λ r. ⌜ r ≡ stepReset self ⌝ }
     {
-        let inside = self.marks.inside;
-        let d = self.clear();
-        if inside {
-            return d.start_load();
+        if self.marks.inside {
+            return self.clear().start_load();
         }
-        d
+        self.clear()
     }
 
     fn step_unsupported(self, n: u16) -> Self
@@ -45,34 +41,25 @@ impl Drive {
     pub(crate) fn train_step(self, n: u16) -> Self
         ensures { λ r. ⌜ r ≡ trainStep self n ⌝ }
     {
-        let w = self.waiting;
-        let p = self.report;
-        let reset = n == codes::SOFT_RESET;
-        if reset {
+        if n == codes::SOFT_RESET {
             return self.step_reset();
         }
-        let waiting = arguments::is_waiting(w);
-        if waiting {
+        let w = self.waiting;
+        if arguments::is_waiting(w) {
             return self.step_argument(n);
         }
-        let open = reports::is_open(p);
-        if open {
+        if reports::is_open(self.report) {
             return self.step_report(n);
         }
-        let next = n == codes::REPORT_NEXT_BIT;
-        if next {
+        if n == codes::REPORT_NEXT_BIT {
             return self.with_level(true);
         }
-        let supported = codes::is_supported(n);
-        let unsupported = !supported;
-        if unsupported {
+        if codes::is_unsupported(n) {
             return self.step_unsupported(n);
         }
-        let report = codes::is_report(n);
-        if report {
+        if codes::is_report(n) {
             return self.step_open_report(n);
         }
-        let code = codes::as_byte(n);
-        self.step_command(code)
+        self.step_command(codes::as_byte(n))
     }
 }

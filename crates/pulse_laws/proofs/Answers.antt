@@ -4,18 +4,19 @@ use Prim.Native.Nat.{ℕ}
 use native.Mathlib.Omega.{arith}
 use mathlib.Core.Bool.{Bool, true, false, not, cond, true≢false, false≢true}
 use mathlib.Core.Logic.{_≢_}
-use mathlib.Core.Path.{_≡_, refl, sym, _∙_}
+use mathlib.Core.Path.{_≡_, refl, sym}
 use Rattle.numbers.specs.Choice.{_≡ᵇ_}
+use Rattle.numbers.proofs.Cases.{settles}
 use Rattle.pulse_parts.specs.declared.cartridge.Cartridge.{Cartridge}
 use Rattle.pulse.specs.declared.calls.Step.{Step}
 use Rattle.pulse.specs.declared.calls.Waited.{Waited}
 use Rattle.pulse.specs.declared.drive.Drive.{Drive}
-use Rattle.pulse.specs.Calls.{alreadySo, brokenRecord, emptyTrain, insertCall, notRefused, outsideRanges, removeCall, tickCall, trainCall, waitCall}
+use Rattle.pulse.specs.Calls.{alreadySo, rulesBroken, emptyTrain, insertCall, notRefused, outsideRanges, removeCall, tickCall, trainCall, waitCall}
 use Rattle.pulse.specs.Drives.{powerOn}
 use Rattle.pulse.specs.Rules.{keepsRules}
 use Rattle.pulse_laws.proofs.Calls.{insert-by, remove-by, tick-by, train-by, wait-by}
 use Rattle.pulse_laws.specs.Demands.{NumberExactly, RefusedKeeps, Settled}
-use Rattle.pulse_laws.specs.Runs.{Exactly, KeepsIfRefused, Settles, outsideItsRanges}
+use Rattle.pulse_laws.specs.Runs.{Exactly, KeepsIfRefused, outsideItsRanges}
 
 -- ---- a refusal alters nothing
 module _ (d : Drive) where
@@ -44,9 +45,9 @@ refused-keeps = record { train = train-keeps; tick = tick-keeps; insert = insert
 -- ---- the numbers
 -- what 01's order picks
 abbrev picked : Bool → ℕ → Bool → Bool → ℕ
-picked broken second holds outside = cond broken brokenRecord (cond holds second (cond outside outsideRanges notRefused))
+picked broken second holds outside = cond broken rulesBroken (cond holds second (cond outside outsideRanges notRefused))
 
-exactly : (b : Bool) (k : ℕ) (h o : Bool) → k ≢ brokenRecord → k ≢ outsideRanges → k ≢ notRefused → Exactly (picked b k h o) b k h o
+exactly : (b : Bool) (k : ℕ) (h o : Bool) → k ≢ rulesBroken → k ≢ outsideRanges → k ≢ notRefused → Exactly (picked b k h o) b k h o
 exactly true k h o e s z =
     record {
       eight = (λ p. refl, λ p. refl);
@@ -118,9 +119,6 @@ number-exactly =
     }
 
 -- ---- one outcome
-pub settles : {A : Type 0} (outcome : A) → Settles outcome
-settles outcome x y p q = p ∙ sym q
-
 pub settled : Settled
 settled =
     record {

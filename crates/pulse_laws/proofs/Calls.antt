@@ -4,21 +4,21 @@ use Prim.Native.Nat.{ℕ}
 use mathlib.Core.Bool.{true, false, not}
 use mathlib.Core.Path.{_≡_}
 use Rattle.numbers.specs.Choice.{_≡ᵇ_}
+use Rattle.numbers.proofs.Cases.{either}
 use Rattle.pulse_parts.specs.declared.cartridge.Cartridge.{Cartridge}
 use Rattle.pulse.specs.declared.calls.Step.{Step}
 use Rattle.pulse.specs.declared.calls.Waited.{Waited}
 use Rattle.pulse.specs.declared.drive.Drive.{Drive}
-use Rattle.pulse.specs.Calls.{accepted, acceptedWait, alreadySo, brokenRecord, emptyTrain, insertCall, outsideRanges, refused, refusedWait, removeCall, tickCall, trainCall, waitCall}
+use Rattle.pulse.specs.Calls.{accepted, acceptedWait, alreadySo, rulesBroken, emptyTrain, insertCall, outsideRanges, refused, refusedWait, removeCall, tickCall, trainCall, waitCall}
 use Rattle.pulse.specs.Events.{inserted, removed, runFor, stepsTo}
 use Rattle.pulse.specs.Motions.{ticked}
 use Rattle.pulse.specs.Rules.{keepsRules}
 use Rattle.pulse.specs.Train.{trainStep}
-use Rattle.pulse_laws.proofs.Bools.{either}
 use Rattle.pulse_laws.proofs.Rules.{Rules, of-rules}
 use Rattle.pulse_laws.specs.Runs.{outsideItsRanges}
 
 -- ---- whatever holds of every outcome holds of the call
-module _ (P : Step → Type 0) (d : Drive) (broken : not (keepsRules d) ≡ true → P (refused d brokenRecord)) where
+module _ (P : Step → Type 0) (d : Drive) (broken : not (keepsRules d) ≡ true → P (refused d rulesBroken)) where
   pub train-by : (n : ℕ) → (not (keepsRules d) ≡ false → (n ≡ᵇ 0) ≡ true → P (refused d emptyTrain)) →
       (not (keepsRules d) ≡ false → (n ≡ᵇ 0) ≡ false → P (accepted (trainStep d n))) → P (trainCall d n)
   unfolding trainCall
@@ -42,7 +42,7 @@ module _ (P : Step → Type 0) (d : Drive) (broken : not (keepsRules d) ≡ true
   unfolding removeCall
   remove-by f g = either P (not (keepsRules d)) _ _ broken (λ e. either P (not (d .marks .inside)) _ _ (f e) (g e))
 
-pub wait-by : (P : Waited → Type 0) (d : Drive) (limit : ℕ) → (not (keepsRules d) ≡ true → P (refusedWait d brokenRecord)) →
+pub wait-by : (P : Waited → Type 0) (d : Drive) (limit : ℕ) → (not (keepsRules d) ≡ true → P (refusedWait d rulesBroken)) →
     (not (keepsRules d) ≡ false → P (acceptedWait (stepsTo limit d) (runFor (stepsTo limit d) d))) → P (waitCall d limit)
 unfolding waitCall
 wait-by P d limit f g = either P (not (keepsRules d)) _ _ f g

@@ -4,14 +4,14 @@ use Prim.Native.Nat.{ℕ, _≤_}
 use mathlib.Core.Bool.{true, false}
 use mathlib.Core.Path.{_≡_, refl, _∙_}
 use Rattle.numbers.specs.Choice.{_≡ᵇ_}
+use Rattle.numbers.proofs.Cases.{either}
 use Rattle.pulse_parts.specs.declared.arguments.Waiting.{Waiting}
 use Rattle.pulse_parts.specs.declared.arguments.Waiting.the-variants.{Nothing}
 use Rattle.pulse_parts.specs.Errors.{admitted}
 use Rattle.pulse_parts.specs.Faults.{errorHeld}
-use Rattle.pulse_parts.specs.Heads.{isLoad}
+use Rattle.pulse_parts.specs.Heads.{isRun}
 use Rattle.pulse.specs.declared.drive.Drive.{Drive}
 use Rattle.pulse.specs.Motions.{latched, loadStarted, runStarted}
-use Rattle.pulse_laws.proofs.Bools.{either}
 use Rattle.pulse_laws.proofs.Motion.{latch-calm, run-calm}
 use Rattle.pulse_laws.proofs.Rules.{Calm, Rules}
 
@@ -30,7 +30,7 @@ pub latch-waiting : (d : Drive) (e n : ℕ) → latched d e n .waiting ≡ d .wa
 unfolding latched
 latch-waiting d e n =
     either (Awaits (d .waiting)) (errorHeld (d .fault)) _ _ (λ p. refl)
-    (λ p. either (Awaits (d .waiting)) (isLoad (d .head .motion)) _ _ (λ q. refl) (λ q. refl))
+    (λ p. either (Awaits (d .waiting)) (isRun (d .head .motion)) _ _ (λ q. refl) (λ q. refl))
 
 pub load-waiting : (d : Drive) → loadStarted d .waiting ≡ d .waiting
 unfolding loadStarted

@@ -5,8 +5,11 @@ use mathlib.Core.Bool.{Bool, true, false, cond, _||_}
 use mathlib.Core.Path.{_≡_, refl, ap}
 use borrow.Author.Tests.{eqb-true, not-false}
 use Rattle.numbers.specs.Choice.{_≡ᵇ_}
+use Rattle.numbers.proofs.Cases.{either, never, no-l}
 use Rattle.pulse_parts.specs.declared.arguments.Waiting.{Waiting}
 use Rattle.pulse_parts.specs.declared.arguments.Waiting.the-variants.{For, Nothing}
+use Rattle.pulse_parts.specs.declared.head.Motion.{Motion}
+use Rattle.pulse_parts.specs.declared.head.Motion.the-variants.{Still, Run, Load}
 use Rattle.pulse_parts.specs.Arguments.{inRange, isWaiting, nibbleOf}
 use Rattle.pulse_parts.specs.Codes.{ignored, isReport, reportNextBit, softReset}
 use Rattle.pulse_parts.specs.Reports.{isOpen}
@@ -16,10 +19,9 @@ use Rattle.pulse.specs.declared.drive.Drive.{Drive}
 use Rattle.pulse.specs.Arguments.{argumentFor, argumentOr, argumentRead, argumentTaken, nibbleTaken, skipped, stepArgument, trackSought}
 use Rattle.pulse.specs.Commands.{checked, obeyed, stepCommand}
 use Rattle.pulse.specs.Events.{inserted, removed, runFor, stepsTo}
-use Rattle.pulse.specs.Motions.{arrived, latched, loadStarted, runStarted, ticked}
+use Rattle.pulse.specs.Motions.{arrived, latched, loadStarted, motionEnded, runStarted, ticked}
 use Rattle.pulse.specs.Reports.{stepReport}
 use Rattle.pulse.specs.Train.{stepReset, stepUnsupported, trainStep}
-use Rattle.pulse_laws.proofs.Bools.{either, never, no-l}
 use Rattle.pulse_laws.proofs.Calls.{insert-by, remove-by, tick-by, train-by, wait-by}
 use Rattle.pulse_laws.specs.Demands.{LevelKept}
 use Rattle.pulse_laws.specs.Runs.{namesLevel}
@@ -37,10 +39,15 @@ abbrev Same : Drive → Drive → Type 0
 Same d x = x .level ≡ d .level
 
 -- ---- time
+ended-level : (m : Motion) (d : Drive) → Same d (motionEnded m d)
+ended-level Still d = refl
+ended-level Run d = refl
+ended-level Load d = refl
+
 run-level : (k : ℕ) (d : Drive) → Same d (runFor k d)
 unfolding runFor ticked arrived
 run-level zero d = refl
-run-level (suc k) d = simp (level-of, alike, run-level k d)
+run-level (suc k) d = simp (level-of, ended-level, alike, run-level k d)
 
 -- ---- trains
 argument-level : (w : Waiting) (d : Drive) (n : ℕ) → Same d (argumentFor w d n)

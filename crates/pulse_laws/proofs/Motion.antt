@@ -6,18 +6,18 @@ use mathlib.Core.Bool.{Bool, true, false, not, or-true}
 use mathlib.Core.Path.{_≡_, refl, sym, _∙_, ap}
 use borrow.Author.Tests.{leb-true, ltb-true, eqb-false}
 use Rattle.numbers.specs.Choice.{_<ᵇ_, _≡ᵇ_, _≤ᵇ_}
+use Rattle.numbers.proofs.Cases.{ands, either, never, or-r}
 use Rattle.pulse_parts.specs.declared.cartridge.Cartridge.{Cartridge}
 use Rattle.pulse_parts.specs.declared.head.Head.{Head}
 use Rattle.pulse_parts.specs.declared.head.Motion.{Motion}
 use Rattle.pulse_parts.specs.declared.head.Motion.the-variants.{Load, Run, Still}
 use Rattle.pulse_parts.specs.Errors.{admitted}
 use Rattle.pulse_parts.specs.Faults.{errorHeld}
-use Rattle.pulse_parts.specs.Heads.{headedFor, heldAt, isLoad, isRun, isStill, stoodAt, toward}
+use Rattle.pulse_parts.specs.Heads.{headedFor, heldAt, isRun, isStill, stoodAt, toward}
 use Rattle.pulse.specs.declared.drive.Drive.{Drive}
 use Rattle.pulse.specs.Drives.{isReady, withFault, withHead, withoutArguments}
-use Rattle.pulse.specs.Motions.{arrived, latched, loadEnded, loadStarted, runStarted, stopped, ticked}
+use Rattle.pulse.specs.Motions.{arrived, latched, loadEnded, loadStarted, motionEnded, runStarted, stopped, ticked}
 use Rattle.pulse.specs.Rules.{heldErrorFits}
-use Rattle.pulse_laws.proofs.Bools.{ands, either, never, or-r}
 use Rattle.pulse_laws.proofs.Rules.{Calm, Cart, Moves, Within, bare, full, loads, rests, runs}
 
 -- where a cartridge is in
@@ -59,16 +59,11 @@ fault-calm d e n a p r =
 stop-fault-calm : (d : Drive) (e n : ℕ) → admitted e ≡ true → Calm d → Calm (stopped (withFault d e n))
 stop-fault-calm d e n a r = fault-calm (stopped d) e n a refl (stop-calm d r)
 
-load-no-run : (m : Motion) → isLoad m ≡ true → isRun m ≡ false
-load-no-run Still e = refl
-load-no-run Run e = never e refl
-load-no-run Load e = refl
-
 pub latch-calm : (d : Drive) (e n : ℕ) → admitted e ≡ true → Calm d → Calm (latched d e n)
 unfolding latched
 latch-calm d e n a r =
     either Calm (errorHeld (d .fault)) _ _ (λ p. r)
-    (λ p. either Calm (isLoad (d .head .motion)) _ _ (λ q. fault-calm d e n a (load-no-run (d .head .motion) q) r) (λ q. stop-fault-calm d e n a r))
+    (λ p. either Calm (isRun (d .head .motion)) _ _ (λ q. stop-fault-calm d e n a r) (λ q. fault-calm d e n a q r))
 
 -- a load ends at the start, within any cartridge
 start-within : {c : Cartridge} {s t k : ℕ} → Within c s t k → Within c 0 0 0
@@ -105,6 +100,12 @@ run-calm d t r i l f =
     either Calm (d .head .place ≡ᵇ t) _ _ (λ e. stop-calm d r)
     (λ e. head-calm d (headedFor (d .head) t Run) r (full i (aimed-within t l (within (r .cart) i))) (runs refl (eqb-false _ _ e)) (rw f))
 
+-- the end of a motion has what each motion's end has
+pub ended : (P : Drive → Type 0) (m : Motion) (d : Drive) → (m ≡ Still → P d) → (m ≡ Run → P (stopped d)) → (m ≡ Load → P (loadEnded d)) → P (motionEnded m d)
+ended P Still d s r l = s refl
+ended P Run d s r l = r refl
+ended P Load d s r l = l refl
+
 -- one place nearer
 toward-within : {c : Cartridge} {s t k : ℕ} → Within c s t k → Within c (toward s t) t k
 toward-within {c} {s} {t} w =
@@ -137,9 +138,14 @@ module _ (d : Drive) (r : Calm d) (i : d .marks .inside ≡ true) where
   unfolding arrived
   arrive-calm m n =
       either Calm (toward (d .head .place) (d .head .target) ≡ᵇ d .head .target) _ _
-      (λ e. either Calm (isLoad (d .head .motion)) _ _ (λ l. end-calm d r i) (λ l. there-calm))
+      (λ e. ended Calm (d .head .motion) (withHead d (nearer (d .head))) (λ s. absurd (moves m s)) (λ s. there-calm) (λ s. end-calm d r i))
       (λ e. near-calm d r i (off m (eqb-false _ _ e)))
     where
+      moves : Moves (d .head .motion) (d .head .place) (d .head .target) → d .head .motion ≡ Still → ⊥
+      moves (rests p e) s = n e
+      moves (runs p e) s = never (ap isStill s) (ap isStill p)
+      moves (loads p z e) s = never (ap isStill s) (ap isStill p)
+
       off : Moves (d .head .motion) (d .head .place) (d .head .target) → (toward (d .head .place) (d .head .target) ≡ d .head .target → ⊥) →
           Moves (d .head .motion) (toward (d .head .place) (d .head .target)) (d .head .target)
       off (rests p e) f = absurd (n e)

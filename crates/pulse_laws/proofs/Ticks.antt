@@ -7,19 +7,19 @@ use mathlib.Core.Bool.{true, false}
 use mathlib.Core.Path.{_≡_, refl, sym, _∙_, ap}
 use borrow.Author.Tests.{leb-true, leb-false, ltb-true, ltb-false, eqb-true, le-leb, lt-leb, le-ltb, lt-ltb}
 use Rattle.numbers.specs.Choice.{_<ᵇ_, _≡ᵇ_, _≤ᵇ_}
+use Rattle.numbers.proofs.Cases.{either, never, test}
 use Rattle.pulse_parts.specs.declared.head.Head.{Head}
 use Rattle.pulse_parts.specs.declared.head.Motion.{Motion}
 use Rattle.pulse_parts.specs.Heads.{isLoad, isStill, toward}
 use Rattle.pulse.specs.declared.calls.Step.{Step}
 use Rattle.pulse.specs.declared.drive.Drive.{Drive}
 use Rattle.pulse.specs.Calls.{tickCall, waitCall}
-use Rattle.pulse.specs.Drives.{isReady}
+use Rattle.pulse.specs.Drives.{isReady, withHead, withoutArguments}
 use Rattle.pulse.specs.Events.{runFor, stepsTo}
 use Rattle.pulse.specs.Motions.{arrived, ticked}
 use Rattle.pulse_laws.proofs.Calls.{tick-is, wait-is}
-use Rattle.pulse_laws.proofs.Bools.{either, never, test}
 use Rattle.pulse_laws.proofs.Kept.{reachable-keeps}
-use Rattle.pulse_laws.proofs.Motion.{off-target}
+use Rattle.pulse_laws.proofs.Motion.{ended, nearer, off-target}
 use Rattle.pulse_laws.proofs.Rules.{Moves, Rules, loads, rests, runs, to-rules}
 use Rattle.pulse_laws.proofs.Trains.{run-rules, tick-rules}
 use Rattle.pulse_laws.specs.Demands.{TickPlace, WaitCounts, WaitReaches}
@@ -64,9 +64,8 @@ tick-next d r =
     either (Next (d .head)) (toward (d .head .place) (d .head .target) ≡ᵇ d .head .target) _ _
     (λ f.
     let q = eqb-true _ _ f in
-    either (Next (d .head)) (isLoad (d .head .motion)) _ _
-    (λ l. let z = load-to-start (r .0 .motion) l in (sym z ∙ sym q, sym z))
-    (λ l. (refl, q)))
+    ended (Next (d .head)) (d .head .motion) (withHead (withoutArguments d) (nearer (d .head))) (λ s. (refl, refl)) (λ s. (refl, q))
+    (λ s. let z = load-to-start (r .0 .motion) (ap isLoad s) in (sym z ∙ sym q, sym z)))
     (λ f. (refl, refl)))
 
 -- ---- k ticks

@@ -6,6 +6,7 @@ use mathlib.Core.Path.{_≡_, refl, sym, _∙_, ap}
 use borrow.Author.Tests.{leb-true, not-false}
 use Rattle.numbers.specs.Choice.{_<ᵇ_, _≡ᵇ_, _≤ᵇ_}
 use Rattle.numbers.specs.Member.{isIn}
+use Rattle.numbers.proofs.Cases.{ands, either, never}
 use Rattle.pulse_parts.specs.declared.arguments.Waiting.{Waiting}
 use Rattle.pulse_parts.specs.declared.arguments.Waiting.the-variants.{For, Nothing}
 use Rattle.pulse_parts.specs.declared.cartridge.Cartridge.{Cartridge}
@@ -14,21 +15,20 @@ use Rattle.pulse_parts.specs.Arguments.{isWaiting}
 use Rattle.pulse_parts.specs.Codes.{isReport, reportNextBit, reportVendor, softReset, supported}
 use Rattle.pulse_parts.specs.Errors.{cartridgeMissing, undefinedCommand}
 use Rattle.pulse_parts.specs.Faults.{errorHeld}
-use Rattle.pulse_parts.specs.Heads.{isLoad, isRun, standingAt, toward}
+use Rattle.pulse_parts.specs.Heads.{isRun, standingAt, toward}
 use Rattle.pulse_parts.specs.Marking.{newMarks}
 use Rattle.pulse_parts.specs.Reports.{isOpen}
 use Rattle.pulse.specs.declared.drive.Drive.{Drive}
-use Rattle.pulse.specs.Drives.{isReady, noCommand, powerOn}
+use Rattle.pulse.specs.Drives.{isReady, noCommand, powerOn, withHead, withoutArguments}
 use Rattle.pulse.specs.Events.{emptied, exchanged, inserted, removed, runFor}
 use Rattle.pulse.specs.Motions.{arrived, latched, loadStarted, stopped, ticked}
 use Rattle.pulse.specs.Reports.{stepOpenReport, stepReport}
 use Rattle.pulse.specs.Rules.{inRanges}
 use Rattle.pulse.specs.Train.{cleared, stepReset, stepUnsupported, trainStep}
 use Rattle.pulse_laws.proofs.Arguments.{argument-rules}
-use Rattle.pulse_laws.proofs.Bools.{ands, either, never}
 use Rattle.pulse_laws.proofs.Commands.{command-rules}
 use Rattle.pulse_laws.proofs.Idle.{Awaits, Idle, idle-rules, latch-idle, load-waiting}
-use Rattle.pulse_laws.proofs.Motion.{latch-calm, load-calm, stop-calm, tick-calm}
+use Rattle.pulse_laws.proofs.Motion.{ended, latch-calm, load-calm, nearer, stop-calm, tick-calm}
 use Rattle.pulse_laws.proofs.Reports.{in-report-idle, open-report-idle}
 use Rattle.pulse_laws.proofs.Rules.{Calm, Cart, Moves, Rules, Within, bare, full, loads, rests, runs}
 
@@ -53,7 +53,7 @@ ticked-waiting d =
     either (Awaits Nothing) (isReady d) _ _ (λ e. refl)
     (λ e.
     either (Awaits Nothing) (toward (d .head .place) (d .head .target) ≡ᵇ d .head .target) _ _
-    (λ f. either (Awaits Nothing) (isLoad (d .head .motion)) _ _ (λ l. refl) (λ l. refl))
+    (λ f. ended (Awaits Nothing) (d .head .motion) (withHead (withoutArguments d) (nearer (d .head))) (λ s. refl) (λ s. refl) (λ s. refl))
     (λ f. refl))
 
 pub tick-rules : (d : Drive) → Rules d → Rules (ticked d)

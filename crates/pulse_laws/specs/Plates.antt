@@ -4,8 +4,8 @@ use Prim.Native.Nat.{ℕ}
 use mathlib.Core.Bool.{Bool, true, false, _&&_}
 use mathlib.Core.List.{List, [], _∷_, map}
 use Rattle.numbers.specs.Choice.{_≡ᵇ_}
+use Rattle.numbers.specs.Flags.{weightOf}
 use Rattle.pulse_parts.specs.Codes.{reportError, skipExtendedForward}
-use Rattle.pulse_parts.specs.Reports.{bit}
 use Rattle.pulse.specs.declared.calls.Step.{Step}
 use Rattle.pulse.specs.declared.drive.Drive.{Drive}
 use Rattle.pulse.specs.Calls.{insertCall}
@@ -63,7 +63,7 @@ same (x ∷ xs) (y ∷ ys) = (x ≡ᵇ y) && same xs ys
 -- the plate prints as it should
 unfoldable pub prints : Plate → Bool
 prints p =
-    same (map (λ (s : Step). bit (s .level)) (answers (p .drive) (p .trains))) (p .levels)
+    same (map (λ (s : Step). weightOf (s .level) 1) (answers (p .drive) (p .trains))) (p .levels)
     && (afterTrains (p .drive) (p .trains) .report .left ≡ᵇ p .itemsLeft)
     && (afterTrains (p .drive) (p .trains) .head .target ≡ᵇ p .target)
 

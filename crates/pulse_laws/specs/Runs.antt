@@ -9,12 +9,14 @@ use lib.ListN.{replicate}
 use Rattle.numbers.specs.Choice.{_≡ᵇ_, _≤ᵇ_, if_then_else_}
 use Rattle.pulse_parts.specs.declared.cartridge.Cartridge.{Cartridge}
 use Rattle.pulse_parts.specs.declared.fault.Fault.{Fault}
+use Rattle.pulse_parts.specs.declared.head.Head.{Head}
 use Rattle.pulse_parts.specs.Arguments.{isWaiting}
 use Rattle.pulse_parts.specs.Codes.{ignored, isReport, reportError, reportNextBit, reportStatus, softReset}
+use Rattle.pulse_parts.specs.Heads.{heldAt, isRun}
 use Rattle.pulse_parts.specs.Reports.{isOpen}
 use Rattle.pulse.specs.declared.calls.Step.{Step}
 use Rattle.pulse.specs.declared.drive.Drive.{Drive}
-use Rattle.pulse.specs.Calls.{brokenRecord, insertCall, notRefused, outsideRanges, removeCall, tickCall, trainCall}
+use Rattle.pulse.specs.Calls.{rulesBroken, insertCall, notRefused, outsideRanges, removeCall, tickCall, trainCall}
 use Rattle.pulse.specs.Drives.{powerOn}
 use Rattle.pulse.specs.Rules.{inRanges}
 
@@ -41,6 +43,17 @@ answers d (n ∷ ns) = trainCall d n ∷ answers (trainCall d n .drive) ns
 unfoldable pub afterTrains : Drive → List ℕ → Drive
 afterTrains d [] = d
 afterTrains d (n ∷ ns) = afterTrains (trainCall d n .drive) ns
+
+-- the answers to trains that are sent at any pace: `pauses 0` ticks before the first, `pauses 1` before the second, and so on
+unfoldable pub pacedAnswers : (ℕ → ℕ) → Drive → List ℕ → List Step
+pacedAnswers pauses d [] = []
+pacedAnswers pauses d (n ∷ ns) =
+    trainCall (afterTicks (pauses 0) d) n ∷ pacedAnswers (λ i. pauses (suc i)) (trainCall (afterTicks (pauses 0) d) n .drive) ns
+
+-- the drive after them
+unfoldable pub afterPaced : (ℕ → ℕ) → Drive → List ℕ → Drive
+afterPaced pauses d [] = d
+afterPaced pauses d (n ∷ ns) = afterPaced (λ i. pauses (suc i)) (trainCall (afterTicks (pauses 0) d) n .drive) ns
 
 -- so many 2s
 abbrev pub nextBits : ℕ → List ℕ
@@ -96,6 +109,11 @@ namesLevel d n =
     not (n ≡ᵇ softReset) && not (isWaiting (d .waiting))
     && (if isOpen (d .report) then not (ignored n) else (n ≡ᵇ reportNextBit) || isReport n)
 
+-- what a train that starts nothing leaves of a head: place, target, track and motion as they were, or a run that is stopped where it stands
+pub data NotStarted (before after : Head) : Type 0 where
+  as-it-was : after ≡ before → NotStarted before after
+  run-stopped : isRun (before .motion) ≡ true → after ≡ heldAt before → NotStarted before after
+
 -- a refusal answers level 0 and alters nothing
 abbrev pub KeepsIfRefused : Drive → Step → Type 0
 KeepsIfRefused d s = s .number ≢ notRefused → (s .level ≡ false) × (s .drive ≡ d)
@@ -106,11 +124,7 @@ outsideItsRanges cart place = not (inRanges cart && (place ≤ᵇ cart .segments
 
 -- 01: "Pulse order: 8, then 7 or 5, then 6.": each number exactly under its condition with no earlier one holding, 0 exactly under none
 pub record Exactly (number : ℕ) (broken : Bool) (second : ℕ) (secondHolds : Bool) (outside : Bool) : Type 0 where
-  pub eight : (number ≡ brokenRecord) ↔ (broken ≡ true)
+  pub eight : (number ≡ rulesBroken) ↔ (broken ≡ true)
   pub next : (number ≡ second) ↔ ((broken ≡ false) × (secondHolds ≡ true))
   pub six : (number ≡ outsideRanges) ↔ ((broken ≡ false) × (secondHolds ≡ false) × (outside ≡ true))
   pub zero : (number ≡ notRefused) ↔ ((broken ≡ false) × (secondHolds ≡ false) × (outside ≡ false))
-
--- a contract that says that the outcome is this one allows no two
-abbrev pub Settles : {A : Type 0} → A → Type 0
-Settles {A} outcome = (x y : A) → x ≡ outcome → y ≡ outcome → x ≡ y

@@ -7,7 +7,6 @@ use mathlib.Core.Path.{_≡_, refl}
 use borrow.Author.Tests.{ne-eqb, leb-true}
 use Rattle.pulse_parts.specs.Arguments.{needed, inRange, nibbleOf, highestNibble, highestRate}
 use Rattle.pulse_parts.specs.Codes.{seekTrack, selectRate}
-use Rattle.numbers.specs.Choice.{_≡ᵇ_}
 use Rattle.pulse_parts.specs.declared.arguments.Nibble.the-variants.{Value}
 
 pub needed-none : (code : ℕ) → 36 ≤ code → 0 ≡ needed code
@@ -30,9 +29,9 @@ value-in-range code n value e = by (inRange code (n - 2)) refl
     by true q = let v : n - 2 ≡ value = (let p = rw q at e in cc) in rw v at q
     by false q = let p = rw q at e in absurd (let z : _≡_ {A = ℕ} 0 1 = cc in omega arith)
 
-module _ (code value : ℕ) (r : inRange code value ≡ true) (t : (code ≡ᵇ seekTrack) ≡ false) where
-  pub rate-in-range : (code ≡ᵇ selectRate) ≡ true → value ≤ highestRate
-  rate-in-range s = leb-true _ _ (rw (t, s) at r)
+module _ (code value : ℕ) (r : inRange code value ≡ true) where
+  pub rate-in-range : code ≡ selectRate → value ≤ highestRate
+  rate-in-range e = leb-true _ _ (rw e at r)
 
-  pub nibble-in-range : (code ≡ᵇ selectRate) ≡ false → value ≤ highestNibble
-  nibble-in-range s = leb-true _ _ (rw (t, s) at r)
+  pub nibble-in-range : (code ≡ seekTrack → ⊥) → (code ≡ selectRate → ⊥) → value ≤ highestNibble
+  nibble-in-range t s = leb-true _ _ (rw (ne-eqb _ _ t, ne-eqb _ _ s) at r)

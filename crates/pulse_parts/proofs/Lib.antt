@@ -1,2 +1,4 @@
 pub mod CodeLaws
 pub mod ArgumentLaws
+pub mod MarkLaws
+pub mod ReportLaws

@@ -1,6 +1,10 @@
 -- What the drive remembers of the cartridge.
 -- Assumes nothing.
-use mathlib.Core.Bool.{Bool, true, false}
+use Prim.Native.Nat.{ℕ}
+use mathlib.Core.Bool.{Bool, true, false, not, _&&_}
+use Rattle.numbers.specs.Choice.{if_then_else_}
+use Rattle.pulse_parts.specs.Codes.{needsCartridge, needsReference}
+use Rattle.pulse_parts.specs.Errors.{noError, cartridgeMissing, newCartridgePending, notReferenced}
 use Rattle.pulse_parts.specs.declared.marks.Marks.{Marks}
 
 -- no cartridge is in
@@ -19,3 +23,11 @@ markFresh m x = record { inside = m .inside; referenced = m .referenced; fresh =
 
 abbrev pub markAsked : Marks → Bool → Marks
 markAsked m x = record { inside = m .inside; referenced = m .referenced; fresh = m .fresh; asked = x }
+
+-- 01: "New mark: 13. No cartridge (10-14, skips): 2. Not referenced (10, 13, skips): 19."
+unfoldable pub commandError : Marks → ℕ → ℕ
+commandError m n =
+    if m .fresh then newCartridgePending else
+    if needsCartridge n && not (m .inside) then cartridgeMissing else
+    if needsReference n && not (m .referenced) then notReferenced else
+    noError

@@ -3,6 +3,7 @@
 use Prim.Native.Nat.{ℕ, _+_, _-_, _*_, _/_, _%_}
 use mathlib.Core.Bool.{Bool, true, false, not, _&&_, _||_}
 use Rattle.numbers.specs.Choice.{if_then_else_, _≡ᵇ_, _<ᵇ_, _≤ᵇ_}
+use Rattle.numbers.specs.Flags.{weightOf}
 use Rattle.pulse_parts.specs.Heads.{isStill}
 use Rattle.pulse_parts.specs.Faults.{errorHeld}
 use Rattle.pulse_parts.specs.declared.cartridge.Cartridge.{Cartridge}
@@ -45,21 +46,17 @@ itemsLeft r =
 abbrev pub owing : Report → Bool → Report
 owing r repeat = record { left = r .left; bits = r .bits; repeat = repeat }
 
-abbrev pub bit : Bool → ℕ
-bit true = 1
-bit false = 0
-
 -- 000, table 2c, 6. 01: "Status bits 6 and 7 are S = 0 and S = G, both 0 without a cartridge."
 abbrev pub statusBits : Head → Fault → Marks → Cartridge → ℕ
 statusBits h f m c =
-    bit (isStill (h .motion))
-    + bit (errorHeld f) * 2
-    + bit (m .inside) * 4
-    + bit (c .protected) * 8
-    + bit (m .fresh) * 16
-    + bit (m .referenced) * 32
-    + bit (m .inside && (h .place ≡ᵇ 0)) * 64
-    + bit (m .inside && (h .place ≡ᵇ c .segments)) * 128
+    weightOf (isStill (h .motion)) 1
+    + weightOf (errorHeld f) 2
+    + weightOf (m .inside) 4
+    + weightOf (c .protected) 8
+    + weightOf (m .fresh) 16
+    + weightOf (m .referenced) 32
+    + weightOf (m .inside && (h .place ≡ᵇ 0)) 64
+    + weightOf (m .inside && (h .place ≡ᵇ c .segments)) 128
 
 -- 000, table 2c, 7: the error, then its command
 abbrev pub errorBits : Fault → ℕ
@@ -75,10 +72,10 @@ qic80 = 2
 -- 000, table 2c, 8. 01: "config bits 1, 2, 5 zero, bit 6 set for type 2 and bit 7 for format 2, both only when referenced"
 abbrev pub configurationBits : ℕ → Marks → Cartridge → ℕ
 configurationBits rate m c =
-    rate * 8 + bit (m .referenced && (c .kind ≡ᵇ extraLength)) * 64 + bit (m .referenced && (c .format ≡ᵇ qic80)) * 128
+    rate * 8 + (weightOf (m .referenced && (c .kind ≡ᵇ extraLength)) 64 + weightOf (m .referenced && (c .format ≡ᵇ qic80)) 128)
 
 -- 000, table 2c, 33. 01: "33 sends zero format and type when not referenced."
 abbrev pub tapeBits : Marks → Cartridge → ℕ
 tapeBits m c =
-    if m .referenced then c .format + c .kind * 16 + bit (c .wide) * 128 else
-    bit (c .wide) * 128
+    if m .referenced then c .format + c .kind * 16 + weightOf (c .wide) 128 else
+    weightOf (c .wide) 128

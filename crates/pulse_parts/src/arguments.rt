@@ -6,7 +6,7 @@ ghost use Rattle.pulse_parts.specs.Arguments.{needed, inRange, nibbleOf,
 use crate::codes;
 
 // Highest values of an argument: a nibble's, and a rate's.
-pub const HIGHEST_NIBBLE: u16 = 15;
+const HIGHEST_NIBBLE: u16 = 15;
 
 pub const HIGHEST_RATE: u16 = 3;
 

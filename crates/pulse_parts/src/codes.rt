@@ -1,5 +1,6 @@
 // The pulse codes (000, table 2a) and what 01 says of each.
 ghost use mathlib.Core.Path.{_≡_};
+ghost use mathlib.Core.Bool.{not};
 ghost use Prim.Native.Nat.{_<_};
 ghost use Rattle.pulse_parts.specs.Codes.{supported, ignored, isReport, isSkip, stopsMotion, needsCartridge, needsReference};
 
@@ -7,41 +8,33 @@ pub const SOFT_RESET: u16 = 1;
 
 pub const REPORT_NEXT_BIT: u16 = 2;
 
-pub const PAUSE: u16 = 3;
+const PAUSE: u16 = 3;
 
-pub const REPORT_STATUS: u16 = 6;
+const REPORT_STATUS: u16 = 6;
 
-pub const REPORT_ERROR: u16 = 7;
+const REPORT_ROM: u16 = 9;
 
-pub const REPORT_CONFIGURATION: u16 = 8;
-
-pub const REPORT_ROM: u16 = 9;
-
-pub const LOGICAL_FORWARD: u16 = 10;
-
-pub const PHYSICAL_REVERSE: u16 = 11;
-
-pub const PHYSICAL_FORWARD: u16 = 12;
+const LOGICAL_FORWARD: u16 = 10;
 
 pub const SEEK_TRACK: u16 = 13;
 
-pub const SEEK_LOAD_POINT: u16 = 14;
+const SEEK_LOAD_POINT: u16 = 14;
 
-pub const STOP_TAPE: u16 = 18;
+const STOP_TAPE: u16 = 18;
 
-pub const SKIP_REVERSE: u16 = 25;
+const SKIP_REVERSE: u16 = 25;
 
-pub const SKIP_FORWARD: u16 = 26;
+const SKIP_FORWARD: u16 = 26;
 
 pub const SELECT_RATE: u16 = 27;
 
 pub const REPORT_VENDOR: u16 = 32;
 
-pub const REPORT_TAPE: u16 = 33;
+const REPORT_TAPE: u16 = 33;
 
-pub const SKIP_EXTENDED_REVERSE: u16 = 34;
+const SKIP_EXTENDED_REVERSE: u16 = 34;
 
-pub const SKIP_EXTENDED_FORWARD: u16 = 35;
+const SKIP_EXTENDED_FORWARD: u16 = 35;
 
 pub fn is_supported(n: u16) -> bool
     ensures { λ r. ⌜ r ≡ supported n ⌝ }
@@ -51,6 +44,12 @@ pub fn is_supported(n: u16) -> bool
         | (n == STOP_TAPE)
         | ((SKIP_REVERSE <= n) & (n <= SELECT_RATE))
         | ((REPORT_VENDOR <= n) & (n <= SKIP_EXTENDED_FORWARD))
+}
+
+pub fn is_unsupported(n: u16) -> bool
+    ensures { λ r. ⌜ r ≡ not (supported n) ⌝ }
+{
+    !is_supported(n)
 }
 
 pub fn is_ignored(n: u16) -> bool

@@ -1,6 +1,11 @@
 // Where the tape stands and where it goes.
 ghost use mathlib.Core.Path.{_≡_};
-ghost use Rattle.pulse_parts.specs.Heads.{isStill, isRun, isLoad, motionFits, standingAt, toward, skippedBack, skippedOn, heldAt, headedFor, stoodAt, onTrack};
+ghost use mathlib.Core.Bool.{_&&_};
+ghost use Rattle.numbers.specs.Choice.{_≡ᵇ_};
+ghost use Rattle.pulse_parts.specs.Codes.{stopsMotion};
+ghost use Rattle.pulse_parts.specs.Heads.{isStill, isRun, motionFits, standingAt, heldAt, headedFor, stoodAt, onTrack};
+ghost use Rattle.pulse_parts.specs.Heads.{toward, skippedBack, skippedOn};
+use crate::codes;
 
 pub enum Motion {
     Still,
@@ -35,16 +40,6 @@ pub fn is_run(m: Motion) -> bool
     }
 }
 
-pub fn is_load(m: Motion) -> bool
-    ensures { λ r. ⌜ r ≡ isLoad m ⌝ }
-{
-    match m {
-        Motion::Still => false,
-        Motion::Run => false,
-        Motion::Load => true,
-    }
-}
-
 pub fn motion_fits(m: Motion, place: u16, target: u16) -> bool
     ensures { λ r. ⌜ r ≡ motionFits m place target ⌝ }
 {
@@ -54,6 +49,40 @@ pub fn motion_fits(m: Motion, place: u16, target: u16) -> bool
         Motion::Run => !there,
         Motion::Load => !there & (target == 0),
     }
+}
+
+pub fn stands(h: Head) -> bool
+    ensures { λ r. ⌜ r ≡ isStill (h .motion) ⌝ }
+{
+    let m = h.motion;
+    is_still(m)
+}
+
+pub fn runs(h: Head) -> bool
+    ensures { λ r. ⌜ r ≡ isRun (h .motion) ⌝ }
+{
+    let m = h.motion;
+    is_run(m)
+}
+
+pub fn head_fits(h: Head) -> bool
+    ensures { λ r. ⌜ r ≡ motionFits (h .motion) (h .place) (h .target) ⌝ }
+{
+    let m = h.motion;
+    motion_fits(m, h.place, h.target)
+}
+
+pub fn is_on_target(h: Head) -> bool
+    ensures { λ r. ⌜ r ≡ (h .place ≡ᵇ h .target) ⌝ }
+{
+    h.place == h.target
+}
+
+// A run gives way to the code: it stops, and the code goes on.
+pub fn gives_way(h: Head, code: u8) -> bool
+    ensures { λ r. ⌜ r ≡ (isRun (h .motion) && stopsMotion code) ⌝ }
+{
+    runs(h) & codes::stops_motion(code as u16)
 }
 
 pub fn standing_at(place: u16) -> Head
@@ -116,6 +145,12 @@ pub fn toward_target(place: u16, target: u16) -> u16
         return place - 1;
     }
     place
+}
+
+pub fn moved(h: Head) -> Head
+    ensures { λ r. ⌜ r ≡ stoodAt h (toward (h .place) (h .target)) ⌝ }
+{
+    stood_at(h, toward_target(h.place, h.target))
 }
 
 pub fn skip_back(place: u16, count: u16) -> u16

@@ -1,13 +1,14 @@
 // A report's items, and the bits of each report (000, table 2c).
 ghost use mathlib.Core.Path.{_≡_};
-ghost use Prim.Native.Nat.{_+_, _*_, _≤_};
-ghost use Rattle.pulse_parts.specs.Reports.{noReport, reportOf8, reportOf16, isOpen, itemsLeft, itemLevel, reportFits, bit, statusBits, errorBits, configurationBits, tapeBits, owing};
+ghost use Rattle.pulse_parts.specs.Reports.{noReport, reportOf8, reportOf16, isOpen, itemsLeft, itemLevel, reportFits, owing};
+ghost use Rattle.pulse_parts.specs.Reports.{statusBits, errorBits, configurationBits, tapeBits};
 use crate::cartridge::Cartridge;
 use crate::fault;
 use crate::fault::Fault;
 use crate::head;
 use crate::head::Head;
 use crate::marks::Marks;
+use numbers::flags;
 
 // The items of a report of eight bits and of sixteen, with the final 1. 01: "report items left <= 17".
 const BYTE_ITEMS: u8 = 9;
@@ -99,27 +100,19 @@ pub fn owing(r: Report, repeat: bool) -> Report
     next
 }
 
-fn bit_of(on: bool) -> u16
-    ensures { λ r. ⌜ (r ≡ bit on) × (r ≤ 1) ⌝ }
-{
-    if on { 1 } else { 0 }
-}
-
+// The bits are sixteen wide for each report: a record may hold any rate, format and type until its rules are judged.
 pub fn status_bits(h: Head, f: Fault, m: Marks, c: Cartridge) -> u16
     ensures { λ r. ⌜ r ≡ statusBits h f m c ⌝ }
 {
-    let motion = h.motion;
-    let inside = m.inside;
-    let ready = head::is_still(motion);
-    let held = fault::is_held(f);
-    bit_of(ready)
-        + bit_of(held) * 2
-        + bit_of(inside) * 4
-        + bit_of(c.protected) * 8
-        + bit_of(m.fresh) * 16
-        + bit_of(m.referenced) * 32
-        + bit_of(inside & (h.place == 0)) * 64
-        + bit_of(inside & (h.place == c.segments)) * 128
+    let bits = flags::weight_of(head::stands(h), 1)
+        + flags::weight_of(fault::is_held(f), 2)
+        + flags::weight_of(m.inside, 4)
+        + flags::weight_of(c.protected, 8)
+        + flags::weight_of(m.fresh, 16)
+        + flags::weight_of(m.referenced, 32)
+        + flags::weight_of(m.inside & (h.place == 0), 64)
+        + flags::weight_of(m.inside & (h.place == c.segments), 128);
+    bits as u16
 }
 
 pub fn error_bits(f: Fault) -> u16
@@ -134,20 +127,18 @@ pub fn configuration_bits(rate: u8, m: Marks, c: Cartridge) -> u16
     ensures { λ r. ⌜ r ≡ configurationBits rate m c ⌝ }
 {
     let speed = rate as u16;
-    let known = m.referenced;
-    speed * 8
-        + bit_of(known & (c.kind == EXTRA_LENGTH)) * 64
-        + bit_of(known & (c.format == QIC_80)) * 128
+    let known = flags::weight_of(m.referenced & (c.kind == EXTRA_LENGTH), 64)
+        + flags::weight_of(m.referenced & (c.format == QIC_80), 128);
+    speed * 8 + known as u16
 }
 
 pub fn tape_bits(m: Marks, c: Cartridge) -> u16
     ensures { λ r. ⌜ r ≡ tapeBits m c ⌝ }
 {
-    let format = c.format as u16;
-    let kind = c.kind as u16;
-    let wide = bit_of(c.wide) * 128;
-    let known = m.referenced;
-    if known {
+    let wide = flags::weight_of(c.wide, 128) as u16;
+    if m.referenced {
+        let format = c.format as u16;
+        let kind = c.kind as u16;
         return format + kind * 16 + wide;
     }
     wide

@@ -3,7 +3,9 @@ ghost use mathlib.Core.Path.{_≡_};
 ghost use Prim.Native.Nat.{_+_, _/_, _%_, _^_, _≤_};
 ghost use lib.ListN.{length};
 ghost use Rattle.numbers.specs.Counts.{countAt};
-ghost use Rattle.pulse_record.specs.PulseRecord.{motionOf, motionByte, unsent, waitingOf, waitedCode, waitedHeld, waitedValue, cartridgeOf, cartridgeByte, describedCartridge, describedPlace, marksOf, marksByte, cartridgeIn, headIn, reportIn, waitingIn, decodeDrive, encodeDrive, encodeTold};
+ghost use Rattle.pulse_record.specs.PulseRecord.{motionOf, motionByte, unsent, waitingOf, waitedCode, waitedHeld, waitedValue};
+ghost use Rattle.pulse_record.specs.PulseRecord.{cartridgeOf, cartridgeByte, describedCartridge, describedPlace, marksOf, marksByte};
+ghost use Rattle.pulse_record.specs.PulseRecord.{cartridgeIn, headIn, reportIn, waitingIn, decodeDrive, encodeDrive, encodeTold};
 use numbers::counts::count2;
 use numbers::flags::is_set;
 use numbers::flags::weight_of;
@@ -245,7 +247,11 @@ fn low(number: u16) -> u8
 
 // The bytes in their places; those of a case or of an open report come in.
 fn lay_out(d: Drive, motion: u8, bits: u16, code: u8, held: u8, value: u16) -> [u8; 32]
-    requires { ⌜ (motion ≡ motionByte (d .head .motion)) × ((bits ≡ unsent (d .report .left) (d .report .bits)) × ((code ≡ waitedCode (d .waiting)) × ((held ≡ waitedHeld (d .waiting)) × (value ≡ waitedValue (d .waiting))))) ⌝ }
+    requires { ⌜ motion ≡ motionByte (d .head .motion) ⌝ }
+    requires { ⌜ bits ≡ unsent (d .report .left) (d .report .bits) ⌝ }
+    requires { ⌜ code ≡ waitedCode (d .waiting) ⌝ }
+    requires { ⌜ held ≡ waitedHeld (d .waiting) ⌝ }
+    requires { ⌜ value ≡ waitedValue (d .waiting) ⌝ }
     ensures { λ r. ⌜ r ≡ encodeDrive d ⌝ }
 {
     [

@@ -27,7 +27,8 @@ pub fresh-left : (new : List ℕ) (st : State) → st ≡ freshState → new ≡
 unfolding packetFresh
 fresh-left new st q e = rw (e, q)
 
-pub change-left : (s new : List ℕ) (old st : State) → old ≡ decodeState s → st ≡ changedState old → new ≡ encodeState st → new ≡ packetChange s
+pub change-left : (s new : List ℕ) (old st : State) → old ≡ decodeState s → st ≡ changedState old → new ≡ encodeState st →
+    new ≡ packetChange s
 unfolding packetChange
 change-left s new old st q p e = rw (e, p, q)
 
@@ -37,7 +38,8 @@ module _ (s image packet buf : List ℕ) (st : State) (o : Outcome) (image' buf'
   unfolding packetCall packetLeft
   packet-kept n = rw (w, ← q, ← e, ne-eqb _ _ n)
 
-  pub packet-written : (new : List ℕ) → o .answer .number ≡ 0 → new ≡ encodeState (o .state) → packetCard new image' buf' answer ≡ packetCall s image packet buf
+  pub packet-written : (new : List ℕ) → o .answer .number ≡ 0 → new ≡ encodeState (o .state) →
+      packetCard new image' buf' answer ≡ packetCall s image packet buf
   unfolding packetCall packetLeft
   packet-written new n f = rw (f, w, ← q, ← e, n)
 
@@ -65,7 +67,8 @@ module _ (s : List ℕ) (d : Drive) (x : Step) (left : PulseCard) (q : d ≡ dec
   unfolding pulseTick
   tick-left e = rw (l, e, q)
 
-  pub insert-left : (bytes : List ℕ) (cart : Cartridge) (place : ℕ) → cart ≡ describedCartridge bytes → place ≡ describedPlace bytes → x ≡ insertCall d cart place → left ≡ pulseInsert s bytes
+  pub insert-left : (bytes : List ℕ) (cart : Cartridge) (place : ℕ) → cart ≡ describedCartridge bytes → place ≡ describedPlace bytes →
+      x ≡ insertCall d cart place → left ≡ pulseInsert s bytes
   unfolding pulseInsert
   insert-left bytes cart place c p e = rw (l, e, c, p, q)
 
@@ -78,4 +81,17 @@ pub wait-left : (s : List ℕ) (d : Drive) (x : Waited) (left : PulseCard) (limi
 unfolding pulseWait
 wait-left s d x left limit q e l = rw (l, e, q)
 
-pub ruleset ways = (fresh-left, change-left, packet-kept, packet-written, power-left, pulse-kept, pulse-written, train-left, tick-left, insert-left, remove-left, wait-left)
+pub ruleset ways = (
+  fresh-left,
+  change-left,
+  packet-kept,
+  packet-written,
+  power-left,
+  pulse-kept,
+  pulse-written,
+  train-left,
+  tick-left,
+  insert-left,
+  remove-left,
+  wait-left,
+)

@@ -1,4 +1,4 @@
--- `rules::nothing_inside` meets its contract.
+-- `nothing_inside` meets its contract.
 -- Assumes nothing.
 use Rattle.pulse.proofs.rules.nothing_inside.Statement.{statement}
 use Rattle.pulse.proofs.rules.nothing_inside.Tie as tie

@@ -1,6 +1,7 @@
--- `Drive::clear` meets its contract.
+-- `clear` meets its contract.
 -- Assumes nothing.
 use borrow.Author.Needs.{needs}
+use Rattle.pulse.proofs.TrainLaws.{clears}
 use Rattle.pulse.proofs.drive.Drive.clear.Statement.{statement}
 use Rattle.pulse.proofs.drive.Drive.clear.Tie as tie
 
@@ -8,7 +9,7 @@ cast-with-fault : tie.Need-cast-with-fault
 cast-with-fault c = search needs
 
 returns : tie.Need-returns
-returns c = simp (c .before .before .with-fault .ensures, c .before .before .before .with-report .ensures, c .before .before .before .before .with-waiting .ensures, c .before .before .before .before .before .no-report .ensures)
+returns c = search clears
 
 pub clear-spec : {M : Type 1} → statement M
 clear-spec =
@@ -18,5 +19,7 @@ clear-spec =
     (λ c κs. tt)
     (λ c κs. tt)
     cast-with-fault
+    (λ c κs. tt)
+    (λ c κs. tt)
     (λ c κs. tt)
     returns)

@@ -1,4 +1,4 @@
--- `Drive::empty` meets its contract.
+-- `empty` meets its contract.
 -- Assumes nothing.
 use Rattle.pulse.proofs.drive.Drive.empty.Statement.{statement}
 use Rattle.pulse.proofs.drive.Drive.empty.Tie as tie

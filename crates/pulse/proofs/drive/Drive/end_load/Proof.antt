@@ -1,4 +1,4 @@
--- `Drive::end_load` meets its contract.
+-- `end_load` meets its contract.
 -- Assumes nothing.
 use Rattle.pulse.proofs.drive.Drive.end_load.Statement.{statement}
 use Rattle.pulse.proofs.drive.Drive.end_load.Tie as tie

@@ -1,4 +1,4 @@
--- `Drive::insert_step` meets its contract.
+-- `insert_step` meets its contract.
 -- Assumes nothing.
 use Rattle.pulse.specs.Events.{inserted}
 use Rattle.pulse.proofs.drive.Drive.insert_step.Statement.{statement}

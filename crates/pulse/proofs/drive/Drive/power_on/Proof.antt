@@ -6,7 +6,9 @@ use Rattle.pulse.proofs.drive.Drive.power_on.Tie as tie
 
 returns : tie.Need-returns
 unfolding powerOn
-returns c = simp (c .no-report .ensures, c .before .no-marks .ensures, c .before .before .standing-at .ensures, c .before .before .before .no-cartridge .ensures)
+returns c =
+    let b = c .before .before in
+    simp (c .no-report .ensures, c .before .no-marks .ensures, b .standing-at .ensures, b .before .no-cartridge .ensures)
 
 pub power-on-spec : {M : Type 1} → statement M
 power-on-spec =

@@ -1,4 +1,4 @@
--- `Drive::remove_step` meets its contract.
+-- `remove_step` meets its contract.
 -- Assumes nothing.
 use Rattle.pulse.specs.Events.{removed}
 use Rattle.pulse.proofs.drive.Drive.remove_step.Statement.{statement}

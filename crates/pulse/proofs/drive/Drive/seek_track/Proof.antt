@@ -1,20 +1,20 @@
--- `Drive::seek_track` meets its contract.
+-- `seek_track` meets its contract.
 -- Assumes nothing.
-use borrow.Author.Tests.{lt-ltb, le-ltb}
+use borrow.Author.Tests.{le-ltb, lt-ltb}
 use borrow.Author.Needs.{needs}
 use Rattle.pulse.specs.Arguments.{trackSought}
 use Rattle.pulse.proofs.drive.Drive.seek_track.Statement.{statement}
 use Rattle.pulse.proofs.drive.Drive.seek_track.Tie as tie
 
-cast-tracks : tie.Need-cast-tracks
-cast-tracks c = search needs
+cast-if1 : tie.Need-cast-if1
+cast-if1 c = search needs
 
 cast-on-track : tie.Need-cast-on-track
 cast-on-track c = search needs
 
 returns : tie.Need-returns
 unfolding trackSought
-returns c = simp (c .with-head .ensures, c .before .on-track .ensures, lt-ltb _ _ (c .before .before .before .if1 .taken))
+returns c = simp (c .with-head .ensures, c .before .on-track .ensures, lt-ltb _ _ (c .before .before .if1 .taken))
 
 cast-latch : tie.Need-cast-latch
 cast-latch c = search needs
@@ -27,7 +27,7 @@ pub seek-track-spec : {M : Type 1} → statement M
 seek-track-spec =
     tie.close
     (tie.spec
-    cast-tracks
+    cast-if1
     cast-on-track
     (λ c κs. tt)
     (λ c κs. tt)

@@ -1,16 +1,14 @@
--- `Drive::skip` meets its contract.
+-- `skip` meets its contract.
 -- Assumes nothing.
-use Rattle.pulse.specs.Arguments.{skipped}
+use Rattle.pulse.proofs.CommandLaws.{argumentWays}
 use Rattle.pulse.proofs.drive.Drive.skip.Statement.{statement}
 use Rattle.pulse.proofs.drive.Drive.skip.Tie as tie
 
 returns : tie.Need-returns
-unfolding skipped
-returns c = simp (c .start-run .ensures, c .before .skip-back .ensures, c .before .before .if1 .taken)
+returns c = search argumentWays
 
 returns-2 : tie.Need-returns-2
-unfolding skipped
-returns-2 c = simp (c .start-run2 .ensures, c .before .skip-on .ensures, c .before .before .if1 .left)
+returns-2 c = search argumentWays
 
 pub skip-spec : {M : Type 1} → statement M
 skip-spec =
@@ -18,7 +16,7 @@ skip-spec =
     (tie.spec
     (λ c κs. tt)
     (λ c κs. tt)
+    (λ c κs. tt)
+    (λ c κs. tt)
     returns
-    (λ c κs. tt)
-    (λ c κs. tt)
     returns-2)

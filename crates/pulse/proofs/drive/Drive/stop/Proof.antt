@@ -1,4 +1,4 @@
--- `Drive::stop` meets its contract.
+-- `stop` meets its contract.
 -- Assumes nothing.
 use Rattle.pulse.proofs.drive.Drive.stop.Statement.{statement}
 use Rattle.pulse.proofs.drive.Drive.stop.Tie as tie

@@ -1,28 +1,29 @@
--- `Drive::take_argument` meets its contract.
+-- `take_argument` meets its contract.
 -- Assumes nothing.
 use native.Mathlib.Omega.{arith}
+use borrow.Author.Tests.{ne-eqb}
 use Rattle.pulse_parts.proofs.ArgumentLaws.{rate-in-range, nibble-in-range}
 use Rattle.pulse.specs.Arguments.{argumentTaken}
 use Rattle.pulse.proofs.drive.Drive.take_argument.Statement.{statement}
 use Rattle.pulse.proofs.drive.Drive.take_argument.Tie as tie
 
+cast-rate : tie.Need-cast-rate
+cast-rate c = let l = rate-in-range (c .before .args .code) (c .before .args .value) (c .before .pre) (c .match .keys2) in omega arith
+
+take-nibble-requires : tie.Need-take-nibble-requires
+take-nibble-requires c κs = nibble-in-range _ _ (c .before .pre) (c .match .rest .0 .1) (c .match .rest .1)
+
 returns : tie.Need-returns
 unfolding argumentTaken
-returns c = simp (c .seek-track .ensures, c .before .with-waiting .ensures, c .before .before .if1 .taken)
-
-cast-with-rate : tie.Need-cast-with-rate
-cast-with-rate c = let a = c .before .before .before .args in let l = rate-in-range (a .code) (a .value) (c .before .before .before .pre) (c .before .before .if1 .left) (c .before .if2 .taken) in omega arith
+returns c = simp (c .seek-track .ensures, c .before .with-waiting .ensures, c .before .before .match .keys1)
 
 returns-2 : tie.Need-returns-2
 unfolding argumentTaken
-returns-2 c = simp (c .with-rate .ensures, c .before .with-waiting2 .ensures, c .before .before .if2 .taken, c .before .before .before .if1 .left)
-
-take-nibble-requires : tie.Need-take-nibble-requires
-take-nibble-requires c κs = nibble-in-range (c .before .before .args .code) (c .before .before .args .value) (c .before .before .pre) (c .before .if1 .left) (c .if2 .left)
+returns-2 c = simp (c .with-waiting2 .ensures, c .before .match .keys2)
 
 returns-3 : tie.Need-returns-3
 unfolding argumentTaken
-returns-3 c = simp (c .take-nibble .ensures, c .before .if2 .left, c .before .before .if1 .left)
+returns-3 c = simp (c .take-nibble .ensures, ne-eqb _ _ (c .before .match .rest .0 .1), ne-eqb _ _ (c .before .match .rest .1))
 
 pub take-argument-spec : {M : Type 1} → statement M
 take-argument-spec =
@@ -30,10 +31,9 @@ take-argument-spec =
     (tie.spec
     (λ c κs. tt)
     (λ c κs. tt)
-    returns
+    cast-rate
     (λ c κs. tt)
-    cast-with-rate
-    (λ c κs. tt)
-    returns-2
     take-nibble-requires
+    returns
+    returns-2
     returns-3)

@@ -1,16 +1,17 @@
--- `Drive::tick_step` meets its contract.
+-- `tick_step` meets its contract.
 -- Assumes nothing.
+use Rattle.numbers.proofs.Branches.{branches}
+use Rattle.pulse.proofs.MotionLaws.{motionWays}
 use Rattle.pulse.specs.Motions.{ticked}
 use Rattle.pulse.proofs.drive.Drive.tick_step.Statement.{statement}
 use Rattle.pulse.proofs.drive.Drive.tick_step.Tie as tie
 
 returns : tie.Need-returns
 unfolding ticked
-returns c = simp (c .if1 .taken, c .before .with-waiting .ensures, ← c .before .before .is-ready .ensures)
+returns c = search branches
 
 returns-2 : tie.Need-returns-2
-unfolding ticked
-returns-2 c = simp (c .arrive .ensures, c .before .with-head .ensures, c .before .before .stood-at .ensures, c .before .before .before .toward-target .ensures, c .before .before .before .before .if1 .left, c .before .before .before .before .before .with-waiting .ensures, ← c .before .before .before .before .before .before .is-ready .ensures)
+returns-2 c = search motionWays
 
 pub tick-step-spec : {M : Type 1} → statement M
 tick-step-spec =

@@ -30,7 +30,8 @@ loop-less c = omega arith
 loop-again : tie.Need-loop-again Inv-loop μ-loop
 loop-again c =
     let b = c .before .before in
-    rw (c .tick-step .ensures) (again _ _ _ _ (b .before .loop-test .taken) (sym (b .is-ready .ensures) ∙ c .before .if1 .left) (b .before .before .loop .inv))
+    let moving = sym (b .is-ready .ensures) ∙ c .before .if1 .left in
+    rw (c .tick-step .ensures) (again _ _ _ _ (b .before .loop-test .taken) moving (b .before .before .loop .inv))
 
 returns-2 : tie.Need-returns-2 Inv-loop μ-loop
 returns-2 c = c .accept-wait2 .ensures ∙ limit-answer _ _ _ _ (c .before .loop-test .left) (c .before .before .loop .inv)

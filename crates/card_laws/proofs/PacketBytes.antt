@@ -1,0 +1,218 @@
+-- What a call of the packet drive leaves of its record, and what it answers, are bytes.
+-- Assumes nothing.
+use mathlib.Core.Path.{_≡_, refl, _∙_}
+use mathlib.Core.Bool.{Bool, true, false, cond, not, _&&_}
+use mathlib.Core.List.{List, _++_}
+use Prim.Native.Nat.{ℕ, _/_, _%_, _<_}
+use native.Mathlib.Omega.{arith}
+use borrow.Author.Tests.{eqb-true, ltb-true, not-true}
+use lib.ListN.{length}
+use Rattle.numbers.specs.Choice.{_<ᵇ_, _≡ᵇ_, if_then_else_}
+use Rattle.numbers.specs.Counts.{countBytes}
+use Rattle.numbers.proofs.Cases.{ands, either}
+use Rattle.image.specs.declared.header.Header.{Header}
+use Rattle.image.specs.declared.header.Judged.{Judged}
+use Rattle.image.specs.declared.header.Judged.the-variants.{Broken, Good as GoodHeader}
+use Rattle.image.specs.Header.{headerOf}
+use Rattle.opcodes.specs.declared.Command.{Command}
+use Rattle.opcodes.specs.declared.Command.the-variants.{Unknown, TestUnitReady, Rewind, RequestSense, Read, Write, WriteFilemarks}
+use Rattle.opcodes.specs.declared.Command.the-variants.{Space, Inquiry, ModeSelect, ModeSense, LoadUnload, Locate, ReadPosition}
+use Rattle.transfer.specs.declared.Moved.{Moved}
+use Rattle.transfer.specs.declared.Stop.{Stop}
+use Rattle.transfer.specs.declared.Stop.the-variants.{Full, AtFilemark, AtBadBlock, AtEnd, AtBeginning}
+use Rattle.stream_parts.specs.declared.requests.Request.{Request}
+use Rattle.stream_parts.specs.declared.state.Attention.{Attention}
+use Rattle.stream_parts.specs.declared.state.Attention.the-variants.{Nothing, MediumChanged, Reset}
+use Rattle.stream_parts.specs.declared.state.Ending.{Ending}
+use Rattle.stream_parts.specs.declared.state.Ending.the-variants.{Good, Check}
+use Rattle.stream_parts.specs.declared.state.Outcome.{Outcome}
+use Rattle.stream_parts.specs.declared.state.Sense.{Sense}
+use Rattle.stream_parts.specs.declared.state.State.{State}
+use Rattle.stream_parts.specs.declared.state.Verdict.{Verdict}
+use Rattle.stream_parts.specs.declared.state.Verdict.the-variants.{Refuses, Ends, Works}
+use Rattle.stream_parts.specs.Answers.{Step, ends}
+use Rattle.stream_parts.specs.Checks.{tapeVerdictOf, verdictOf}
+use Rattle.stream_parts.specs.Senses.{unitAttention}
+use Rattle.stream_parts.specs.States.{changedState, freshState, keepsRecordRules}
+use Rattle.stream.specs.Packet.{carriedOut, decided, judged, packetLength, packetStep}
+use Rattle.stream.specs.Work.{endingOf, loadWork, locateWork, markWork, readEnds, readWork, replyEnds, selectWork, spaceWork, workOf}
+use Rattle.stream.specs.Work.{writeEnding, writeEnds, writeWork}
+use Rattle.stream_laws.specs.Words.{numberOf, stateOf}
+use Rattle.stream_laws.proofs.Leaving.{accepted-leaves}
+use Rattle.packet_record.specs.PacketRecord.{attentionByte, decodeState, encodeAnswer, encodeState}
+use Rattle.tapecard.specs.PacketCalls.{packetCall, packetChange, packetFresh, packetLeft}
+use Rattle.card_laws.specs.Promises.{Bytes, PacketStaysBytes}
+use Rattle.card_laws.proofs.BytesKept.{All, bytes-of, flag-most, next, none, word}
+
+-- ---- every number that a packet tells, and both codes of every sense that it leaves, stand in a byte each
+
+abbrev low : Sense → Bool
+low x = (x .asc <ᵇ 256) && (x .ascq <ᵇ 256)
+
+-- the record is left only where the packet is not refused
+abbrev fits : Outcome → Bool
+fits x = (x .answer .number <ᵇ 256) && (x .answer .status <ᵇ 256) && (if x .answer .number ≡ᵇ 0 then low (x .state .sense) else true)
+
+alike : (b : Bool) → cond b true true ≡ true
+alike true = refl
+alike false = refl
+
+-- before the work
+abbrev lowVerdict : Verdict → Bool
+lowVerdict (Refuses number) = (number <ᵇ 256) && not (number ≡ᵇ 0)
+lowVerdict (Ends x) = low x
+lowVerdict Works = true
+
+verdict-of : (b : Bool) (x y : Verdict) → lowVerdict (cond b x y) ≡ cond b (lowVerdict x) (lowVerdict y)
+verdict-of true x y = refl
+verdict-of false x y = refl
+
+attention-low : (a : Attention) → low (unitAttention a) ≡ true
+attention-low Nothing = refl
+attention-low MediumChanged = refl
+attention-low Reset = refl
+
+verdict-low : (h : Header) (st : State) (q : Request) (room : ℕ) → lowVerdict (verdictOf h st q room) ≡ true
+unfolding verdictOf tapeVerdictOf
+verdict-low h st q room = simp (verdict-of, attention-low (st .attention), alike)
+
+-- the work
+abbrev lowEnding : Ending → Bool
+lowEnding Good = true
+lowEnding (Check x) = low x
+
+ending-of : (b : Bool) (x y : Ending) → lowEnding (cond b x y) ≡ cond b (lowEnding x) (lowEnding y)
+ending-of true x y = refl
+ending-of false x y = refl
+
+ending-low : (stop : Stop) (left : ℕ) → lowEnding (endingOf stop left) ≡ true
+unfolding endingOf
+ending-low Full left = refl
+ending-low AtFilemark left = refl
+ending-low AtBadBlock left = refl
+ending-low AtEnd left = refl
+ending-low AtBeginning left = refl
+
+write-low : (h : Header) (asked : ℕ) (m : Moved) → lowEnding (writeEnding h asked m) ≡ true
+unfolding writeEnding
+write-low h asked m = simp (ending-of, alike)
+
+ends-fits : (st : State) (e : Ending) (blocks bytes : ℕ) → fits (ends st e blocks bytes) ≡ lowEnding e
+unfolding ends
+ends-fits st Good blocks bytes = refl
+ends-fits st (Check x) blocks bytes = refl
+
+fits-of : (b : Bool) (x y : Outcome) → fits (cond b x y) ≡ cond b (fits x) (fits y)
+fits-of true x y = refl
+fits-of false x y = refl
+
+work-fits : (c : Command) (s : List ℕ) (h : Header) (st : State) (q : Request) (buf : List ℕ) → fits (workOf c s h st q buf .out) ≡ true
+unfolding workOf readWork readEnds writeWork writeEnds markWork spaceWork replyEnds selectWork loadWork locateWork
+work-fits Unknown s h st q buf = ends-fits _ _ _ _
+work-fits TestUnitReady s h st q buf = ends-fits _ _ _ _
+work-fits Rewind s h st q buf = ends-fits _ _ _ _
+work-fits RequestSense s h st q buf = ends-fits _ _ _ _
+work-fits Read s h st q buf = ends-fits _ _ _ _ ∙ ending-low _ _
+work-fits Write s h st q buf = ends-fits _ _ _ _ ∙ write-low _ _ _
+work-fits WriteFilemarks s h st q buf = ends-fits _ _ _ _ ∙ write-low _ _ _
+work-fits Space s h st q buf = simp (fits-of, ends-fits, ending-low, alike)
+work-fits Inquiry s h st q buf = ends-fits _ _ _ _
+work-fits ModeSelect s h st q buf = simp (fits-of, ends-fits, alike)
+work-fits ModeSense s h st q buf = ends-fits _ _ _ _
+work-fits LoadUnload s h st q buf = ends-fits _ _ _ _
+work-fits Locate s h st q buf = simp (fits-of, ends-fits, alike)
+work-fits ReadPosition s h st q buf = ends-fits _ _ _ _
+
+-- the whole packet
+abbrev Fits : Step → Type 0
+Fits x = fits (x .out) ≡ true
+
+carried-fits : (v : Verdict) (s : List ℕ) (h : Header) (st : State) (q : Request) (buf : List ℕ) → lowVerdict v ≡ true →
+    Fits (carriedOut v s h st q buf)
+unfolding carriedOut
+carried-fits (Refuses number) s h st q buf e =
+    let l : (number <ᵇ 256) ≡ true = search ands in
+    let n : (number ≡ᵇ 0) ≡ false = not-true _ (search ands) in
+    rw (l, n)
+carried-fits (Ends x) s h st q buf e = e
+carried-fits Works s h st q buf e = work-fits (q .command) s h st q buf
+
+judged-fits : (j : Judged) (s : List ℕ) (st : State) (packet buf : List ℕ) → Fits (judged j s st packet buf)
+unfolding judged decided
+judged-fits Broken s st packet buf = refl
+judged-fits (GoodHeader h) s st packet buf =
+    either Fits (not (keepsRecordRules h st)) _ _ (λ e. refl) (λ e. carried-fits _ s h st _ buf (verdict-low h st _ (length buf)))
+
+packet-fits : (s : List ℕ) (st : State) (packet buf : List ℕ) → Fits (packetStep s st packet buf)
+unfolding packetStep
+packet-fits s st packet buf =
+    either Fits (not (length packet ≡ᵇ packetLength)) _ _ (λ e. refl) (λ e. judged-fits (headerOf s) s st packet buf)
+
+-- ---- the bytes
+
+quad : (v : ℕ) {xs : List ℕ} → All xs → All (countBytes 4 v ++ xs)
+quad v a =
+    next {x = v / 256 / 256 / 256 % 256} (omega arith)
+    (next {x = v / 256 / 256 % 256} (omega arith) (next {x = v / 256 % 256} (omega arith) (next {x = v % 256} (omega arith) a)))
+
+attention-byte : (a : Attention) → attentionByte a < 256
+attention-byte Nothing = omega arith
+attention-byte MediumChanged = omega arith
+attention-byte Reset = omega arith
+
+state-bytes : (st : State) → st .sense .key < 256 → low (st .sense) ≡ true → Bytes (encodeState st)
+unfolding encodeState
+state-bytes st key l =
+    let x = st .sense in
+    let asc = ltb-true (x .asc) 256 (search ands) in
+    let ascq = ltb-true (x .ascq) 256 (search ands) in
+    bytes-of
+    (quad (st .position)
+    (next (omega (arith, flag-most (st .loaded) 1))
+    (next (attention-byte (st .attention))
+    (word (st .speed)
+    (next key
+    (next asc
+    (next ascq
+    (next (omega (arith, flag-most (x .valid) 1, flag-most (x .eom) 2, flag-most (x .filemark) 4)) (quad (x .information) none)))))))))
+
+sense-low : (x : Outcome) → (x .answer .number ≡ᵇ 0) ≡ true → fits x ≡ true → low (x .state .sense) ≡ true
+sense-low x e f =
+    let g : (if x .answer .number ≡ᵇ 0 then low (x .state .sense) else true) ≡ true = search ands in
+    rw e at g
+
+answer-bytes : (x : Outcome) → fits x ≡ true → Bytes (encodeAnswer (x .answer))
+unfolding encodeAnswer
+answer-bytes x e =
+    let number = ltb-true (x .answer .number) 256 (search ands) in
+    let status = ltb-true (x .answer .status) 256 (search ands) in
+    let zero : 0 < 256 = omega arith in
+    bytes-of
+    (next number
+    (next status
+    (next zero
+    (next zero (quad (x .answer .blocks) (quad (x .answer .bytes) (next zero (next zero (next zero (next zero none))))))))))
+
+-- ---- the promises
+
+record-bytes : (state image packet buf : List ℕ) → Bytes state → Bytes (packetCall state image packet buf .state)
+unfolding packetCall packetLeft
+record-bytes state image packet buf b =
+    let st = decodeState state in
+    let x = packetStep image st packet buf in
+    either Bytes (numberOf x ≡ᵇ 0) (encodeState (stateOf x)) state
+    (λ e.
+    let w = accepted-leaves image st packet buf (eqb-true (numberOf x) 0 e) in
+    state-bytes (stateOf x) (omega (arith, w .accepted .ruly .key)) (sense-low (x .out) e (packet-fits image st packet buf)))
+    (λ e. b)
+
+pub packet-stays-bytes : PacketStaysBytes
+unfolding packetFresh packetChange packetCall packetLeft
+packet-stays-bytes =
+    record {
+      fresh = state-bytes freshState (omega arith) refl;
+      change = λ state. state-bytes (changedState (decodeState state)) (omega arith) refl;
+      packet = record-bytes;
+      answer = λ state image packet buf.
+          answer-bytes (packetStep image (decodeState state) packet buf .out) (packet-fits image (decodeState state) packet buf);
+    }
