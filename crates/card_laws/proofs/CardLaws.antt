@@ -7,9 +7,9 @@ use Prim.Native.Nat.{ℕ}
 use borrow.Author.Tests.{ne-eqb}
 use Rattle.tapecard.proofs.Settling.{fresh-settled, change-settled, packet-settled, power-on-settled, train-settled, tick-settled}
 use Rattle.tapecard.proofs.Settling.{insert-settled, remove-settled, wait-settled}
-use Rattle.stream_parts.specs.declared.state.State.{State}
-use Rattle.stream_parts.specs.Answers.{Step}
-use Rattle.stream_laws.specs.Words.{Refusal}
+use Rattle.packet_parts.specs.declared.state.State.{State}
+use Rattle.packet_parts.specs.Answers.{Left}
+use Rattle.packet_laws.specs.Words.{Refusal}
 use Rattle.stream_laws.proofs.Refusals.{refused-keeps}
 use Rattle.pulse.specs.declared.drive.Drive.{Drive}
 use Rattle.packet_record.specs.PacketRecord.{decodeState, encodeAnswer}
@@ -22,7 +22,7 @@ use Rattle.card_laws.proofs.PulseFollowing.{ticks-whole}
 
 -- ---- refused: untouched
 
-left-untouched : (state image buf : List ℕ) (st : State) (x : Step) → Refusal image st buf x → (x .out .answer .number ≡ 0 → ⊥)
+left-untouched : (state image buf : List ℕ) (st : State) (x : Left State) → Refusal image st buf x → (x .answer .number ≡ 0 → ⊥)
     → packetLeft state x ≡ packetCard state image buf (packetLeft state x .answer)
 unfolding packetLeft
 left-untouched state image buf st x r n = rw (ne-eqb _ _ n, r .image-kept, r .buf-kept)

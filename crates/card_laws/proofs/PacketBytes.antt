@@ -11,34 +11,36 @@ use Rattle.numbers.specs.Choice.{_<ᵇ_, _≡ᵇ_, if_then_else_}
 use Rattle.numbers.specs.Counts.{countBytes}
 use Rattle.numbers.proofs.Cases.{ands, either}
 use Rattle.image.specs.declared.header.Header.{Header}
-use Rattle.image.specs.declared.header.Judged.{Judged}
-use Rattle.image.specs.declared.header.Judged.the-variants.{Broken, Good as GoodHeader}
-use Rattle.image.specs.Header.{headerOf}
+use Rattle.image.specs.Header.{fieldsOf, keepsHeaderRules}
 use Rattle.opcodes.specs.declared.Command.{Command}
 use Rattle.opcodes.specs.declared.Command.the-variants.{Unknown, TestUnitReady, Rewind, RequestSense, Read, Write, WriteFilemarks}
 use Rattle.opcodes.specs.declared.Command.the-variants.{Space, Inquiry, ModeSelect, ModeSense, LoadUnload, Locate, ReadPosition}
 use Rattle.transfer.specs.declared.Moved.{Moved}
 use Rattle.transfer.specs.declared.Stop.{Stop}
 use Rattle.transfer.specs.declared.Stop.the-variants.{Full, AtFilemark, AtBadBlock, AtEnd, AtBeginning}
-use Rattle.stream_parts.specs.declared.requests.Request.{Request}
-use Rattle.stream_parts.specs.declared.state.Attention.{Attention}
-use Rattle.stream_parts.specs.declared.state.Attention.the-variants.{Nothing, MediumChanged, Reset}
-use Rattle.stream_parts.specs.declared.state.Ending.{Ending}
-use Rattle.stream_parts.specs.declared.state.Ending.the-variants.{Good, Check}
-use Rattle.stream_parts.specs.declared.state.Outcome.{Outcome}
-use Rattle.stream_parts.specs.declared.state.Sense.{Sense}
-use Rattle.stream_parts.specs.declared.state.State.{State}
-use Rattle.stream_parts.specs.declared.state.Verdict.{Verdict}
-use Rattle.stream_parts.specs.declared.state.Verdict.the-variants.{Refuses, Ends, Works}
-use Rattle.stream_parts.specs.Answers.{Step, ends}
-use Rattle.stream_parts.specs.Checks.{tapeVerdictOf, verdictOf}
-use Rattle.stream_parts.specs.Senses.{unitAttention}
-use Rattle.stream_parts.specs.States.{changedState, freshState, keepsRecordRules}
-use Rattle.stream.specs.Packet.{carriedOut, decided, judged, packetLength, packetStep}
-use Rattle.stream.specs.Work.{endingOf, loadWork, locateWork, markWork, readEnds, readWork, replyEnds, selectWork, spaceWork, workOf}
+use Rattle.packet_parts.specs.declared.requests.Request.{Request}
+use Rattle.packet_parts.specs.declared.state.Attention.{Attention}
+use Rattle.packet_parts.specs.declared.state.Attention.the-variants.{Nothing, MediumChanged, Reset}
+use Rattle.packet_parts.specs.declared.state.Ending.{Ending}
+use Rattle.packet_parts.specs.declared.state.Ending.the-variants.{Good, Check}
+use Rattle.packet_parts.specs.declared.state.Outcome.{Outcome}
+use Rattle.packet_parts.specs.declared.state.Sense.{Sense}
+use Rattle.packet_parts.specs.declared.state.State.{State}
+use Rattle.packet_parts.specs.declared.state.Verdict.{Verdict}
+use Rattle.packet_parts.specs.declared.state.Verdict.the-variants.{Refuses, Ends, Works}
+use Rattle.packet_parts.specs.Answers.{Left, ends}
+use Rattle.packet_parts.specs.declared.verdicts.Asked.{Asked}
+use Rattle.packet_parts.specs.Replies.{replyEnds}
+use Rattle.packet_parts.specs.Requests.{packetLength}
+use Rattle.packet_parts.specs.Shell.{carriedOut, decided, answersTo}
+use Rattle.packet_parts.specs.Verdicts.{foundFirst, verdictBy}
+use Rattle.packet_parts.specs.Senses.{unitAttention}
+use Rattle.packet_parts.specs.States.{changedState, freshState, keepsRecordRules}
+use Rattle.stream.specs.Packet.{streamDevice, packetStep}
+use Rattle.stream.specs.Work.{endingOf, loadWork, locateWork, markWork, readEnds, readWork, selectWork, spaceWork, workOf}
 use Rattle.stream.specs.Work.{writeEnding, writeEnds, writeWork}
-use Rattle.stream_laws.specs.Words.{numberOf, stateOf}
-use Rattle.stream_laws.proofs.Leaving.{accepted-leaves}
+use Rattle.packet_laws.specs.Words.{numberOf}
+use Rattle.stream_laws.proofs.Leaving.{outcomeOf, accepted-leaves}
 use Rattle.packet_record.specs.PacketRecord.{attentionByte, decodeState, encodeAnswer, encodeState}
 use Rattle.tapecard.specs.PacketCalls.{packetCall, packetChange, packetFresh, packetLeft}
 use Rattle.card_laws.specs.Promises.{Bytes, PacketStaysBytes}
@@ -72,9 +74,9 @@ attention-low Nothing = refl
 attention-low MediumChanged = refl
 attention-low Reset = refl
 
-verdict-low : (h : Header) (st : State) (q : Request) (room : ℕ) → lowVerdict (verdictOf h st q room) ≡ true
-unfolding verdictOf tapeVerdictOf
-verdict-low h st q room = simp (verdict-of, attention-low (st .attention), alike)
+verdict-low : (a : Asked) (protected : Bool) (st : State) (room : ℕ) → lowVerdict (verdictBy a protected st room) ≡ true
+unfolding verdictBy foundFirst
+verdict-low a protected st room = simp (verdict-of, attention-low (st .attention), alike)
 
 -- the work
 abbrev lowEnding : Ending → Bool
@@ -106,7 +108,7 @@ fits-of : (b : Bool) (x y : Outcome) → fits (cond b x y) ≡ cond b (fits x) (
 fits-of true x y = refl
 fits-of false x y = refl
 
-work-fits : (c : Command) (s : List ℕ) (h : Header) (st : State) (q : Request) (buf : List ℕ) → fits (workOf c s h st q buf .out) ≡ true
+work-fits : (c : Command) (s : List ℕ) (h : Header) (st : State) (q : Request) (buf : List ℕ) → fits (outcomeOf (workOf c s h st q buf)) ≡ true
 unfolding workOf readWork readEnds writeWork writeEnds markWork spaceWork replyEnds selectWork loadWork locateWork
 work-fits Unknown s h st q buf = ends-fits _ _ _ _
 work-fits TestUnitReady s h st q buf = ends-fits _ _ _ _
@@ -124,11 +126,11 @@ work-fits Locate s h st q buf = simp (fits-of, ends-fits, alike)
 work-fits ReadPosition s h st q buf = ends-fits _ _ _ _
 
 -- the whole packet
-abbrev Fits : Step → Type 0
-Fits x = fits (x .out) ≡ true
+abbrev Fits : Left State → Type 0
+Fits x = fits (outcomeOf x) ≡ true
 
 carried-fits : (v : Verdict) (s : List ℕ) (h : Header) (st : State) (q : Request) (buf : List ℕ) → lowVerdict v ≡ true →
-    Fits (carriedOut v s h st q buf)
+    Fits (carriedOut streamDevice v s h st q buf)
 unfolding carriedOut
 carried-fits (Refuses number) s h st q buf e =
     let l : (number <ᵇ 256) ≡ true = search ands in
@@ -137,16 +139,13 @@ carried-fits (Refuses number) s h st q buf e =
 carried-fits (Ends x) s h st q buf e = e
 carried-fits Works s h st q buf e = work-fits (q .command) s h st q buf
 
-judged-fits : (j : Judged) (s : List ℕ) (st : State) (packet buf : List ℕ) → Fits (judged j s st packet buf)
-unfolding judged decided
-judged-fits Broken s st packet buf = refl
-judged-fits (GoodHeader h) s st packet buf =
-    either Fits (not (keepsRecordRules h st)) _ _ (λ e. refl) (λ e. carried-fits _ s h st _ buf (verdict-low h st _ (length buf)))
-
 packet-fits : (s : List ℕ) (st : State) (packet buf : List ℕ) → Fits (packetStep s st packet buf)
-unfolding packetStep
+unfolding answersTo decided
 packet-fits s st packet buf =
-    either Fits (not (length packet ≡ᵇ packetLength)) _ _ (λ e. refl) (λ e. judged-fits (headerOf s) s st packet buf)
+    either Fits (not (length packet ≡ᵇ packetLength)) _ _ (λ e. refl) (λ e.
+    either Fits (not (keepsHeaderRules s)) _ _ (λ e. refl) (λ e.
+    either Fits (not (keepsRecordRules (fieldsOf s .recorded) st)) _ _ (λ e. refl) (λ e.
+    carried-fits _ s (fieldsOf s) st _ buf (verdict-low _ _ st (length buf)))))
 
 -- ---- the bytes
 
@@ -200,10 +199,10 @@ unfolding packetCall packetLeft
 record-bytes state image packet buf b =
     let st = decodeState state in
     let x = packetStep image st packet buf in
-    either Bytes (numberOf x ≡ᵇ 0) (encodeState (stateOf x)) state
+    either Bytes (numberOf x ≡ᵇ 0) (encodeState (x .state)) state
     (λ e.
     let w = accepted-leaves image st packet buf (eqb-true (numberOf x) 0 e) in
-    state-bytes (stateOf x) (omega (arith, w .accepted .ruly .key)) (sense-low (x .out) e (packet-fits image st packet buf)))
+    state-bytes (x .state) (omega (arith, w .accepted .ruly .key)) (sense-low (outcomeOf x) e (packet-fits image st packet buf)))
     (λ e. b)
 
 pub packet-stays-bytes : PacketStaysBytes
@@ -214,5 +213,5 @@ packet-stays-bytes =
       change = λ state. state-bytes (changedState (decodeState state)) (omega arith) refl;
       packet = record-bytes;
       answer = λ state image packet buf.
-          answer-bytes (packetStep image (decodeState state) packet buf .out) (packet-fits image (decodeState state) packet buf);
+          answer-bytes (outcomeOf (packetStep image (decodeState state) packet buf)) (packet-fits image (decodeState state) packet buf);
     }

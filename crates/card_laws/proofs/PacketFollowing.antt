@@ -12,11 +12,13 @@ use Rattle.numbers.specs.Choice.{if_then_else_}
 use Rattle.numbers.specs.Counts.{countAt}
 use Rattle.numbers.proofs.CountLaws.{count-bound}
 use Rattle.image.proofs.HeaderLaws.{sound}
-use Rattle.stream_parts.specs.Answers.{Step}
+use Rattle.packet_parts.specs.Answers.{Left}
+use Rattle.packet_parts.specs.declared.state.State.{State}
+use Rattle.packet_parts.specs.Requests.{requestUnder}
 use Rattle.stream_parts.specs.Requests.{requestOf}
-use Rattle.stream_parts.specs.States.{speeds, freshState}
+use Rattle.packet_parts.specs.States.{speeds, freshState}
 use Rattle.stream.specs.Packet.{packetStep}
-use Rattle.stream_laws.specs.Words.{numberOf, blocksOf, bytesOf, stateOf}
+use Rattle.packet_laws.specs.Words.{numberOf, blocksOf, bytesOf}
 use Rattle.stream_laws.proofs.Leaving.{accepted-leaves}
 use Rattle.stream_laws.proofs.Refusals.{refused-keeps}
 use Rattle.packet_record.specs.PacketRecord.{decodeState, encodeState, encodeAnswer}
@@ -28,17 +30,17 @@ use Rattle.card_laws.proofs.CycleLaws.{state-kept-by-cycle, decoded-sta
 -- ---- what an accepted packet leaves fits
 
 module _ (state image packet buf : List ℕ) (b : Bytes packet) where
-  abbrev x : Step
+  abbrev x : Left State
   x = packetStep image (decodeState state) packet buf
 
   -- nothing is cut in the bytes that are left
   record Whole (accepted : Bool) : Type 0 where
-    followed : decodeState (if accepted then encodeState (stateOf x) else state) ≡ stateOf x
+    followed : decodeState (if accepted then encodeState (x .state) else state) ≡ x .state
     blocks : blocksOf x < 2 ^ 32
     bytes : bytesOf x < 2 ^ 32
 
   accepted-whole : numberOf x ≡ 0 → Whole true
-  unfolding requestOf largest
+  unfolding requestOf requestUnder largest
   accepted-whole e =
       let w = accepted-leaves image (decodeState state) packet buf e in
       let a = w .accepted in

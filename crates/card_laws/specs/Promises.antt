@@ -5,7 +5,7 @@ use mathlib.Core.Bool.{true}
 use mathlib.Core.List.{List, map}
 use Prim.Native.Nat.{ℕ, _^_, _<_, _≤_}
 use lib.ListN.{getD}
-use Rattle.stream_parts.specs.declared.state.State.{State}
+use Rattle.packet_parts.specs.declared.state.State.{State}
 use Rattle.pulse_parts.specs.declared.arguments.Waiting.{Waiting}
 use Rattle.pulse_parts.specs.declared.arguments.Waiting.the-variants.{Nothing, For}
 use Rattle.pulse.specs.declared.drive.Drive.{Drive}
@@ -15,9 +15,9 @@ use Rattle.pulse.specs.Rules.{keepsRules}
 use Rattle.pulse_laws.specs.Demands.{Recovered, Regained}
 use Rattle.pulse_laws.specs.Runs.{answers, pacedAnswers, recoveryTrains, silentTicks}
 use Rattle.card_laws.specs.Sessions.{answersOn, pacedAnswersOn, pacedOn, ticksOn, told, trainsOn}
-use Rattle.stream_parts.specs.States.{freshState, changedState}
+use Rattle.packet_parts.specs.States.{freshState, changedState}
 use Rattle.stream.specs.Packet.{packetStep}
-use Rattle.stream_laws.specs.Words.{stateOf, blocksOf, bytesOf}
+use Rattle.packet_laws.specs.Words.{blocksOf, bytesOf}
 use Rattle.numbers.specs.Counts.{countAt}
 use Rattle.numbers.specs.Outcomes.{Settles}
 use Rattle.packet_record.specs.PacketRecord.{decodeState, encodeState}
@@ -102,7 +102,7 @@ pub record PacketFollows : Type 0 where
   pub fresh : decodeState packetFresh ≡ freshState
   pub change : (state : List ℕ) → Bytes state → decodeState (packetChange state) ≡ changedState (decodeState state)
   pub packet : (state image packet buf : List ℕ) → Bytes packet
-      → decodeState (packetCall state image packet buf .state) ≡ stateOf (packetStep image (decodeState state) packet buf)
+      → decodeState (packetCall state image packet buf .state) ≡ packetStep image (decodeState state) packet buf .state
 
 pub record PulseFollows : Type 0 where
   pub power-on : (vendor rom : ℕ) → vendor < 2 ^ 16 → rom < 2 ^ 8 → decodeDrive (pulsePowerOn vendor rom) ≡ powerOn vendor rom

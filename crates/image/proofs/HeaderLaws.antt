@@ -134,6 +134,18 @@ module _ (s : List ℕ) (h : Header) (good : headerOf s ≡ Good h) where
         recorded-blocks = omega arith;
       }
 
+broken-by : (t : Bool) (f : Header) → cond t (Good f) Broken ≡ Broken → t ≡ false
+broken-by true f e = let z : _≡_ {A = ℕ} 0 1 = cc in absurd (omega arith)
+broken-by false f e = refl
+
+pub broken-of : (s : List ℕ) → headerOf s ≡ Broken → keepsHeaderRules s ≡ false
+unfolding headerOf
+broken-of s e = broken-by (keepsHeaderRules s) (fieldsOf s) e
+
+pub broken-header : (s : List ℕ) → keepsHeaderRules s ≡ false → headerOf s ≡ Broken
+unfolding headerOf
+broken-header s e = rw e
+
 pub good-header : (s : List ℕ) → keepsHeaderRules s ≡ true → headerOf s ≡ Good (fieldsOf s)
 unfolding headerOf
 good-header s e = rw e

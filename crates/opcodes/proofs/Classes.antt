@@ -1,4 +1,4 @@
--- The class of each command; the table of classes is held to the list of supported commands by one computed test.
+-- The class of each command; a table of classes is held to its list of commands by one computed test, for any list.
 -- Assumes nothing.
 use Prim.Native.Nat.{ℕ, _<_}
 use mathlib.Core.Path.{_≡_, refl, ap, _∙_}
@@ -9,7 +9,7 @@ use lib.ListN.{length, getD}
 use Rattle.numbers.proofs.TableRule.{every, at}
 use Rattle.opcodes.specs.declared.Command.{Command}
 use Rattle.opcodes.specs.declared.Command.the-variants.{Unknown, TestUnitReady, Rewind, RequestSense, Read, Write, WriteFilemarks, Space, Inquiry, ModeSelect, ModeSense, LoadUnload, Locate, ReadPosition}
-use Rattle.opcodes.specs.Commands.{commandOf, commandOfClass}
+use Rattle.opcodes.specs.Commands.{Supported, lookUp, commandOfClass}
 
 abbrev pub classOf : Command → ℕ
 classOf Unknown = 0
@@ -44,12 +44,13 @@ class-names LoadUnload = refl
 class-names Locate = refl
 class-names ReadPosition = refl
 
--- the test of the whole table: each entry is the class of its opcode's command
-abbrev pub agrees : ℕ → ℕ → Bool
-agrees opcode class = eqb class (classOf (commandOf opcode))
+-- the test of a whole table: each entry is the class of its opcode's command
+abbrev pub agrees : List Supported → ℕ → ℕ → Bool
+agrees commands opcode class = eqb class (classOf (lookUp commands opcode))
 
 -- a table that passes it names the command of each opcode
-pub by-table : (table : List ℕ) (opcode : ℕ) (r : Command) → r ≡ commandOfClass (getD table opcode 0) → opcode < length table → T (every agrees 0 table)
-    → r ≡ commandOf opcode
-by-table table opcode r e h t =
-    e ∙ ap commandOfClass (eqb→eq (getD table opcode 0) (classOf (commandOf opcode)) (at agrees table t opcode h)) ∙ class-names (commandOf opcode)
+pub by-table : (commands : List Supported) (table : List ℕ) (opcode : ℕ) (r : Command) → r ≡ commandOfClass (getD table opcode 0) → opcode < length table
+    → T (every (agrees commands) 0 table) → r ≡ lookUp commands opcode
+by-table commands table opcode r e h t =
+    let c = lookUp commands opcode in
+    e ∙ ap commandOfClass (eqb→eq (getD table opcode 0) (classOf c) (at (agrees commands) table t opcode h)) ∙ class-names c

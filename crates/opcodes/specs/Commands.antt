@@ -1,4 +1,4 @@
--- The thirteen commands of 01's "The packet record and answers", each under its first byte; every other first byte is unknown.
+-- The commands of a packet device, each under its first byte; every other first byte is unknown.
 -- Assumes nothing.
 use Prim.Native.Nat.{ℕ}
 use mathlib.Core.List.{List, [], _∷_}
@@ -14,8 +14,9 @@ infix 70 _is_
 abbrev _is_ : ℕ → Command → Supported
 o is c = record { opcode = o; command = c }
 
-abbrev pub supported : List Supported
-supported =
+-- the thirteen commands of 01's "The packet record and answers"
+abbrev pub streamCommands : List Supported
+streamCommands =
     0x00 is TestUnitReady
     ∷ 0x01 is Rewind
     ∷ 0x03 is RequestSense
@@ -36,8 +37,8 @@ lookUp [] x = Unknown
 lookUp (c ∷ cs) x = if c .opcode ≡ᵇ x then c .command else lookUp cs x
 
 -- 01: "Unknown opcode 5/20/00; the opcode's class comes from a table of 256 entries, one for each first byte."
-unfoldable pub commandOf : ℕ → Command
-commandOf x = lookUp supported x
+unfoldable pub streamCommand : ℕ → Command
+streamCommand x = lookUp streamCommands x
 
 -- the numbers that the table holds for the commands, in the order of their opcodes; 0 is unknown
 unfoldable pub commandOfClass : ℕ → Command

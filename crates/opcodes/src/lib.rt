@@ -1,6 +1,6 @@
 // 01: "the opcode's class comes from a table of 256 entries, one for each first byte."
 ghost use mathlib.Core.Path.{_≡_};
-ghost use Rattle.opcodes.specs.Commands.{commandOf, commandOfClass};
+ghost use Rattle.opcodes.specs.Commands.{streamCommand, commandOfClass};
 
 pub enum Command {
     Unknown,
@@ -19,7 +19,7 @@ pub enum Command {
     ReadPosition, // 34h
 }
 
-const CLASSES: [u8; 256] = [
+const STREAM_CLASSES: [u8; 256] = [
     1,
     2,
     0,
@@ -300,9 +300,9 @@ fn command_of_class(class: u8) -> Command
     }
 }
 
-pub fn command_of(opcode: u8) -> Command
-    ensures { λ r. ⌜ r ≡ commandOf opcode ⌝ }
+pub fn stream_command(opcode: u8) -> Command
+    ensures { λ r. ⌜ r ≡ streamCommand opcode ⌝ }
 {
     let i = opcode as usize;
-    command_of_class(CLASSES[i])
+    command_of_class(STREAM_CLASSES[i])
 }

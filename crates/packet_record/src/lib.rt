@@ -7,10 +7,10 @@ use numbers::counts::count2;
 use numbers::counts::count4;
 use numbers::flags::is_set;
 use numbers::flags::weight_of;
-use stream_parts::state::Answer;
-use stream_parts::state::Attention;
-use stream_parts::state::Sense;
-use stream_parts::state::State;
+use packet_parts::state::Answer;
+use packet_parts::state::Attention;
+use packet_parts::state::Sense;
+use packet_parts::state::State;
 
 fn attention_of(byte: u8) -> Attention
     ensures { λ r. ⌜ r ≡ attentionOf byte ⌝ }

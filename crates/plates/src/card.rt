@@ -1,7 +1,7 @@
 // What is lent to the drive, and one packet sent.
-ghost use Prim.Native.Nat.{_≤_};
 use crate::show;
 use numbers::counts::count4;
+use numbers::sizes::least;
 use tapecard::packet_calls::tapecard_change;
 use tapecard::packet_calls::tapecard_fresh;
 use tapecard::packet_calls::tapecard_packet;
@@ -42,15 +42,6 @@ pub fn plate() -> Card {
         lent: IMAGE_LENGTH,
         room: BUFFER_LENGTH,
     }
-}
-
-pub fn least(a: usize, b: usize) -> usize
-    ensures { λ r. ⌜ (r ≤ a) × (r ≤ b) ⌝ }
-{
-    if a < b {
-        return a;
-    }
-    b
 }
 
 // The record after a change of cartridge, or a fresh one.

@@ -9,8 +9,8 @@ ghost use Prim.Native.Nat.{_≤_, _<_};
 ghost use lib.ListN.{length};
 use crate::card;
 use crate::card::Card;
-use crate::card::least;
 use crate::show;
+use numbers::sizes::least;
 
 const MOST: usize = 40;
 

@@ -1,11 +1,9 @@
 -- The ways of the commands' functions.
 -- Assumes nothing.
-use mathlib.Core.Path.{_≡_, ap, _∙_}
-use mathlib.Core.Bool.{true, false}
+use mathlib.Core.Path.{_≡_, ap}
+use mathlib.Core.Bool.{Bool, true, false}
 use mathlib.Core.List.{List, _++_}
-use Prim.Native.Nat.{ℕ, _≤_, min}
-use lib.ListN.{length, take}
-use Rattle.numbers.specs.Over.{over}
+use Prim.Native.Nat.{ℕ, _≤_}
 use Rattle.image.specs.declared.header.Header.{Header}
 use Rattle.image.specs.Elements.{recordTo}
 use Rattle.opcodes.specs.declared.Command.{Command}
@@ -15,17 +13,19 @@ use Rattle.transfer.specs.Reading.{Reading, reads, readFrom}
 use Rattle.transfer.specs.Writing.{Writing, writes, writeFrom, markFrom}
 use Rattle.transfer.proofs.ReadLaws.{read-left}
 use Rattle.transfer.proofs.WriteLaws.{lay-left}
-use Rattle.stream_parts.specs.declared.requests.Request.{Request}
-use Rattle.stream_parts.specs.declared.state.Ending.{Ending}
-use Rattle.stream_parts.specs.declared.state.Ending.the-variants.{Good}
-use Rattle.stream_parts.specs.declared.state.Outcome.{Outcome}
-use Rattle.stream_parts.specs.declared.state.State.{State}
-use Rattle.stream_parts.specs.Answers.{done, ends}
+use Rattle.packet_parts.specs.declared.requests.Request.{Request}
+use Rattle.packet_parts.specs.declared.state.Ending.{Ending}
+use Rattle.packet_parts.specs.declared.state.Ending.the-variants.{Good}
+use Rattle.packet_parts.specs.declared.state.Outcome.{Outcome}
+use Rattle.packet_parts.specs.declared.state.State.{State}
+use Rattle.packet_parts.specs.Answers.{done, ends}
 use Rattle.stream_parts.specs.Checks.{askedBy}
-use Rattle.stream_parts.specs.Replies.{senseBytes, inquiryBytes, hasPage, modeHeader, modePage, modeBytes, positionBytes}
-use Rattle.stream_parts.specs.Requests.{spaceCode, loadBit}
-use Rattle.stream_parts.specs.States.{atPlace}
-use Rattle.stream.specs.Work.{endingOf, moves, readEnds, readWork, writeEnding, writeEnds, writeWork, markWork, spaceWork, firstOf, replyEnds, selectWork, loadWork, locateWork, workOf}
+use Rattle.packet_parts.specs.Replies.{senseBytes, modeHeader, replyEnds, repliedInto}
+use Rattle.packet_parts.specs.Requests.{loadBit}
+use Rattle.packet_parts.specs.States.{atPlace}
+use Rattle.stream_parts.specs.Replies.{streamInquiry, hasPage, modePage, modeBytes, positionBytes}
+use Rattle.stream_parts.specs.Requests.{spaceCode}
+use Rattle.stream.specs.Work.{endingOf, moves, readEnds, readWork, writeEnding, writeEnds, writeWork, markWork, spaceWork, selectWork, loadWork, locateWork, workOf}
 
 -- ---- READ, WRITE, WRITE FILEMARK
 
@@ -59,18 +59,7 @@ module _ (s : List ℕ) (h : Header) (st : State) (asked : ℕ) (buf new : List 
   unfolding markWork writeEnds
   mark-went x r last e p q = rw (← run, q, p, e)
 
--- ---- the first of some bytes
-
-pub reply-went : (bytes : List ℕ) (asked n : ℕ) (st : State) (buf new : List ℕ) (r : Outcome) → n ≡ min asked (length bytes) → r ≡ ends st Good 0 n
-    → new ≡ over buf 0 (take n bytes) → (r ≡ replyEnds bytes asked st) × (new ≡ over buf 0 (firstOf bytes asked))
-unfolding replyEnds firstOf
-reply-went bytes asked n st buf new r p q e = (rw (q, p), rw (e, p))
-
--- the bytes given are those that are meant
-pub replied-as : (bytes meant : List ℕ) (asked : ℕ) (st : State) (buf new : List ℕ) (r : Outcome) → bytes ≡ meant → r ≡ replyEnds bytes asked st
-    → new ≡ over buf 0 (firstOf bytes asked) → (r ≡ replyEnds meant asked st) × (new ≡ over buf 0 (firstOf meant asked))
-replied-as bytes meant asked st buf new r e p q =
-    (p ∙ ap (λ (b : List ℕ). replyEnds b asked st) e, q ∙ ap (λ (b : List ℕ). over buf 0 (firstOf b asked)) e)
+-- ---- 1Ah
 
 pub with-page : (h : Header) (st : State) (q : Request) → hasPage q ≡ true → modeHeader h 31 ++ modePage h st ≡ modeBytes h st q
 with-page h st q e = rw e
@@ -104,16 +93,16 @@ module _ (k : Command) (s : List ℕ) (h : Header) (st : State) (q : Request) (b
   unfolding workOf
   was-selected e p = rw (e, p)
 
-  pub was-loaded : k ≡ LoadUnload → r ≡ loadWork st (loadBit q) → done r s buf ≡ workOf k s h st q buf
+  pub was-loaded : (load : Bool) → k ≡ LoadUnload → load ≡ loadBit q → r ≡ loadWork st load → done r s buf ≡ workOf k s h st q buf
   unfolding workOf
-  was-loaded e p = rw (e, p)
+  was-loaded load e l p = rw (e, p, l)
 
   pub was-located : k ≡ Locate → r ≡ locateWork h st (q .target) → done r s buf ≡ workOf k s h st q buf
   unfolding workOf
   was-located e p = rw (e, p)
 
   module _ (new : List ℕ) where
-    pub was-sensed : k ≡ RequestSense → r ≡ replyEnds (senseBytes (st .sense)) (q .length) st → new ≡ over buf 0 (firstOf (senseBytes (st .sense)) (q .length))
+    pub was-sensed : k ≡ RequestSense → r ≡ replyEnds (senseBytes (st .sense)) (q .length) st → new ≡ repliedInto (senseBytes (st .sense)) (q .length) buf
         → done r s new ≡ workOf k s h st q buf
     unfolding workOf
     was-sensed e p n = rw (e, p, n)
@@ -130,16 +119,16 @@ module _ (k : Command) (s : List ℕ) (h : Header) (st : State) (q : Request) (b
     unfolding workOf
     was-marked e p = rw e p
 
-    pub was-asked : k ≡ Inquiry → r ≡ replyEnds inquiryBytes (q .length) st → new ≡ over buf 0 (firstOf inquiryBytes (q .length)) → done r s new ≡ workOf k s h st q buf
+    pub was-asked : k ≡ Inquiry → r ≡ replyEnds streamInquiry (q .length) st → new ≡ repliedInto streamInquiry (q .length) buf → done r s new ≡ workOf k s h st q buf
     unfolding workOf
     was-asked e p n = rw (e, p, n)
 
-    pub was-shown : k ≡ ModeSense → r ≡ replyEnds (modeBytes h st q) (q .length) st → new ≡ over buf 0 (firstOf (modeBytes h st q) (q .length))
+    pub was-shown : k ≡ ModeSense → r ≡ replyEnds (modeBytes h st q) (q .length) st → new ≡ repliedInto (modeBytes h st q) (q .length) buf
         → done r s new ≡ workOf k s h st q buf
     unfolding workOf
     was-shown e p n = rw (e, p, n)
 
-    pub was-placed : k ≡ ReadPosition → r ≡ replyEnds (positionBytes h st) 20 st → new ≡ over buf 0 (firstOf (positionBytes h st) 20)
+    pub was-placed : k ≡ ReadPosition → r ≡ replyEnds (positionBytes h st) 20 st → new ≡ repliedInto (positionBytes h st) 20 buf
         → done r s new ≡ workOf k s h st q buf
     unfolding workOf
     was-placed e p n = rw (e, p, n)

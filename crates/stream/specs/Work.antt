@@ -1,13 +1,12 @@
 -- The work of each command, once nothing before it ended the packet.
 -- Assumes nothing.
-use Prim.Native.Nat.{ℕ, _*_, _-_, min}
+use Prim.Native.Nat.{ℕ, _+_, _*_, _-_}
 use mathlib.Core.Bool.{Bool, not, _&&_}
 use mathlib.Core.List.{List}
-use lib.ListN.{length, getD, take}
+use lib.ListN.{getD}
 use Rattle.numbers.specs.Choice.{if_then_else_, _≡ᵇ_, _<ᵇ_, _≤ᵇ_}
 use Rattle.numbers.specs.Counts.{countAt}
 use Rattle.numbers.specs.Member.{isIn}
-use Rattle.numbers.specs.Over.{over}
 use Rattle.image.specs.declared.header.Header.{Header}
 use Rattle.image.specs.Elements.{recordTo}
 use Rattle.opcodes.specs.declared.Command.{Command}
@@ -18,16 +17,18 @@ use Rattle.transfer.specs.declared.Stop.the-variants.{Full, AtFilemark, AtBadBl
 use Rattle.transfer.specs.Reading.{Reading, readFrom}
 use Rattle.transfer.specs.Writing.{Writing, writeFrom, markFrom}
 use Rattle.transfer.specs.Spacing.{blocksOn, blocksBack, marksOn, marksBack}
-use Rattle.stream_parts.specs.declared.requests.Request.{Request}
-use Rattle.stream_parts.specs.declared.state.Ending.{Ending}
-use Rattle.stream_parts.specs.declared.state.Ending.the-variants.{Good, Check}
-use Rattle.stream_parts.specs.declared.state.Outcome.{Outcome}
-use Rattle.stream_parts.specs.declared.state.State.{State}
-use Rattle.stream_parts.specs.Answers.{Step, done, ends}
-use Rattle.stream_parts.specs.Replies.{senseBytes, inquiryBytes, modeBytes, positionBytes, positionLength, pastWarning}
-use Rattle.stream_parts.specs.Requests.{spaceCode, overBlocks, toEndOfData, devicePage, fullList, isBack, magnitude, loadBit}
-use Rattle.stream_parts.specs.Senses.{filemarkDetected, unreadableBlock, endOfData, volumeOverflow, earlyWarning, beginningOfTape, beyondData, wrongList}
-use Rattle.stream_parts.specs.States.{speeds, atPlace, withSpeed}
+use Rattle.packet_parts.specs.declared.requests.Request.{Request}
+use Rattle.packet_parts.specs.declared.state.Ending.{Ending}
+use Rattle.packet_parts.specs.declared.state.Ending.the-variants.{Good, Check}
+use Rattle.packet_parts.specs.declared.state.Outcome.{Outcome}
+use Rattle.packet_parts.specs.declared.state.State.{State}
+use Rattle.packet_parts.specs.Answers.{Left, done, ends}
+use Rattle.packet_parts.specs.Replies.{senseBytes, devicePage, devicePageLength, shortList, fullList, replyEnds, repliedInto}
+use Rattle.packet_parts.specs.Requests.{loadBit}
+use Rattle.stream_parts.specs.Replies.{streamInquiry, modeBytes, positionBytes, positionLength, pastWarning}
+use Rattle.stream_parts.specs.Requests.{spaceCode, overBlocks, toEndOfData, isBack, magnitude}
+use Rattle.packet_parts.specs.Senses.{filemarkDetected, unreadableBlock, endOfData, volumeOverflow, earlyWarning, beginningOfTape, beyondData, wrongList}
+use Rattle.packet_parts.specs.States.{speeds, atPlace, withLoaded, withSpeed}
 
 -- ---- 08h READ
 
@@ -44,10 +45,10 @@ endingOf AtBeginning left = Check (beginningOfTape left)
 abbrev pub moves : State → ℕ → ℕ → Moved → Ending → Outcome
 moves st asked size moved ending = ends (atPlace st (moved .place)) ending (asked - moved .left) ((asked - moved .left) * size)
 
-unfoldable pub readEnds : State → ℕ → ℕ → List ℕ → Reading → Step
+unfoldable pub readEnds : State → ℕ → ℕ → List ℕ → Reading → Left State
 readEnds st asked size s r = done (moves st asked size (r .moved) (endingOf (r .moved .stop) (r .moved .left))) s (r .buf)
 
-unfoldable pub readWork : List ℕ → Header → State → ℕ → List ℕ → Step
+unfoldable pub readWork : List ℕ → Header → State → ℕ → List ℕ → Left State
 readWork s h st asked buf =
     readEnds st asked (h .size) s (readFrom s (h .size) (h .kinds) (h .blocks) (h .recorded) asked 0 (st .position) buf)
 
@@ -62,16 +63,16 @@ writeEnding h asked moved =
     Good
 
 -- "U = new P", once for all that the run stored
-unfoldable pub writeEnds : Header → State → ℕ → ℕ → List ℕ → Writing → Step
+unfoldable pub writeEnds : Header → State → ℕ → ℕ → List ℕ → Writing → Left State
 writeEnds h st asked size buf w =
     done (moves st asked size (w .moved) (writeEnding h asked (w .moved))) (recordTo (w .image) (st .position) (w .moved .place)) buf
 
-unfoldable pub writeWork : List ℕ → Header → State → ℕ → List ℕ → Step
+unfoldable pub writeWork : List ℕ → Header → State → ℕ → List ℕ → Left State
 writeWork s h st asked buf =
     writeEnds h st asked (h .size) buf (writeFrom (h .size) (h .kinds) (h .blocks) (h .capacity) buf asked 0 (st .position) s)
 
 -- "N (bytes 2-4) filemarks by WRITE's rules": no bytes are taken from the buffer
-unfoldable pub markWork : List ℕ → Header → State → ℕ → List ℕ → Step
+unfoldable pub markWork : List ℕ → Header → State → ℕ → List ℕ → Left State
 markWork s h st asked buf = writeEnds h st asked 0 buf (markFrom (h .kinds) (h .capacity) asked (st .position) s)
 
 -- ---- 11h SPACE
@@ -95,23 +96,18 @@ spaceWork s h st code count =
 
 -- ---- 03h, 12h, 1Ah, 34h: the first of some bytes
 
-unfoldable pub firstOf : List ℕ → ℕ → List ℕ
-firstOf bytes asked = take (min asked (length bytes)) bytes
-
-unfoldable pub replyEnds : List ℕ → ℕ → State → Outcome
-replyEnds bytes asked st = ends st Good 0 (min asked (length bytes))
-
-abbrev pub replyWork : List ℕ → ℕ → State → List ℕ → List ℕ → Step
-replyWork bytes asked st s buf = done (replyEnds bytes asked st) s (over buf 0 (firstOf bytes asked))
+abbrev pub replyWork : List ℕ → ℕ → State → List ℕ → List ℕ → Left State
+replyWork bytes asked st s buf = done (replyEnds bytes asked st) s (repliedInto bytes asked buf)
 
 -- ---- 15h MODE SELECT
 
--- "Length 32: page bytes 2Ah 12h and speed 0, 62, 125, 250 or 500"; the page starts at byte 12 of the list, its speed stands in its bytes 14-15
+-- "Length 32: page bytes 2Ah 12h and speed 0, 62, 125, 250 or 500"; the page stands after the header, its speed in its bytes 14-15
 abbrev pub listSpeed : List ℕ → ℕ
-listSpeed list = countAt list 26 2
+listSpeed list = countAt list (shortList + 14) 2
 
 unfoldable pub goodList : List ℕ → Bool
-goodList list = (getD list 12 0 ≡ᵇ devicePage) && (getD list 13 0 ≡ᵇ 0x12) && isIn (listSpeed list) speeds
+goodList list =
+    (getD list shortList 0 ≡ᵇ devicePage) && (getD list (shortList + 1) 0 ≡ᵇ devicePageLength) && isIn (listSpeed list) speeds
 
 -- "Length 32: page bytes 2Ah 12h and speed .., else 5/26/00; other bytes ignored."
 unfoldable pub selectWork : State → ℕ → List ℕ → Outcome
@@ -124,8 +120,7 @@ selectWork st asked list =
 
 -- "P = 0; loaded as the bit says."
 unfoldable pub loadWork : State → Bool → Outcome
-loadWork st load =
-    ends (record { position = 0; loaded = load; attention = st .attention; speed = st .speed; sense = st .sense }) Good 0 0
+loadWork st load = ends (withLoaded (atPlace st 0) load) Good 0 0
 
 -- "Above U: P = U, 8/00/05, not valid. Else P = target."
 unfoldable pub locateWork : Header → State → ℕ → Outcome
@@ -135,7 +130,7 @@ locateWork h st target =
 
 -- ---- by command
 
-unfoldable pub workOf : Command → List ℕ → Header → State → Request → List ℕ → Step
+unfoldable pub workOf : Command → List ℕ → Header → State → Request → List ℕ → Left State
 workOf Unknown s h st q buf = done (ends st Good 0 0) s buf
 workOf TestUnitReady s h st q buf = done (ends st Good 0 0) s buf
 workOf Rewind s h st q buf = done (ends (atPlace st 0) Good 0 0) s buf
@@ -144,7 +139,7 @@ workOf Read s h st q buf = readWork s h st (q .count) buf
 workOf Write s h st q buf = writeWork s h st (q .count) buf
 workOf WriteFilemarks s h st q buf = markWork s h st (q .count) buf
 workOf Space s h st q buf = done (spaceWork s h st (spaceCode q) (q .count)) s buf
-workOf Inquiry s h st q buf = replyWork inquiryBytes (q .length) st s buf
+workOf Inquiry s h st q buf = replyWork streamInquiry (q .length) st s buf
 workOf ModeSelect s h st q buf = done (selectWork st (q .length) buf) s buf
 workOf ModeSense s h st q buf = replyWork (modeBytes h st q) (q .length) st s buf
 workOf LoadUnload s h st q buf = done (loadWork st (loadBit q)) s buf

@@ -5,24 +5,24 @@ ghost use mathlib.Core.Path.{_≡_};
 ghost use Prim.Native.Nat.{_^_, _<_, _≤_};
 ghost use Rattle.image.specs.Header.{headerOf};
 ghost use Rattle.image.specs.declared.header.Judged.the-variants.{Good};
-ghost use Rattle.stream_parts.specs.Answers.{done};
-ghost use Rattle.stream.specs.Packet.{decided, packetStep};
-ghost use Rattle.stream_parts.specs.States.{freshState, changedState};
+ghost use Rattle.packet_parts.specs.Answers.{done};
+ghost use Rattle.packet_parts.specs.Shell.{decided};
+ghost use Rattle.stream.specs.Packet.{streamDevice, FreshPromise, ChangedPromise, PacketPromise};
 use crate::work::work;
 use image::header::Header;
 use image::header::Judged;
 use image::header::header_of;
-use stream_parts::answers::end_before;
-use stream_parts::answers::refuse;
-use stream_parts::checks::keeps_record_rules;
+use packet_parts::answers::end_before;
+use packet_parts::answers::refuse;
+use packet_parts::requests::Request;
+use packet_parts::rules::keeps_record_rules;
+use packet_parts::state::Outcome;
+use packet_parts::state::State;
+use packet_parts::state::Verdict;
+use packet_parts::state::changed_state;
+use packet_parts::state::fresh_state;
 use stream_parts::checks::verdict;
-use stream_parts::requests::Request;
 use stream_parts::requests::request_of;
-use stream_parts::senses::no_sense;
-use stream_parts::state::Attention;
-use stream_parts::state::Outcome;
-use stream_parts::state::State;
-use stream_parts::state::Verdict;
 
 const PACKET_LENGTH: usize = 12;
 
@@ -30,37 +30,23 @@ const NOT_TWELVE_BYTES: u8 = 1;
 
 const BROKEN_IMAGE: u8 = 2;
 
-const BROKEN_RECORD: u8 = 3;
+const UNRULY_RECORD: u8 = 3;
 
-// 01: "Fresh: P 0, loaded, attention reset, speed 0, sense zero."
 pub fn fresh() -> State
-    ensures { λ r. ⌜ r ≡ freshState ⌝ }
+    ensures { λ r. ⌜ FreshPromise r ⌝ }
 {
-    State {
-        position: 0,
-        loaded: true,
-        attention: Attention::Reset,
-        speed: 0,
-        sense: no_sense(),
-    }
+    fresh_state()
 }
 
-// 01: "Changing the cartridge (never refused) sets only P 0, loaded, attention medium changed, sense zero."
 pub fn changed(state: State) -> State
-    ensures { λ r. ⌜ r ≡ changedState state ⌝ }
+    ensures { λ r. ⌜ ChangedPromise state r ⌝ }
 {
-    State {
-        position: 0,
-        loaded: true,
-        attention: Attention::MediumChanged,
-        speed: state.speed,
-        sense: no_sense(),
-    }
+    changed_state(state)
 }
 
 fn decide(image: &mut [u8], h: Header, state: State, q: Request, buf: &mut [u8]) -> Outcome
     requires { ⌜ ((headerOf (now image) ≡ Good h) × ((state .position ≤ h .recorded) × (state .sense .key ≤ 15))) × (q .count < 2 ^ 24) ⌝ }
-    ensures { λ r. ⌜ done r (now (image .exit)) (now (buf .exit)) ≡ decided (now (image .entry)) h state q (now (buf .entry)) ⌝ }
+    ensures { λ r. ⌜ done r (now (image .exit)) (now (buf .exit)) ≡ decided streamDevice (now (image .entry)) h state q (now (buf .entry)) ⌝ }
 {
     let found = verdict(h, state, q, buf.len());
     match found {
@@ -72,7 +58,7 @@ fn decide(image: &mut [u8], h: Header, state: State, q: Request, buf: &mut [u8])
 
 // 01: "Packet order: 1, 2, 3, attention, opcode, fields, not ready, protection, 4, list contents, the work."
 pub fn packet(image: &mut [u8], state: State, packet: &[u8], buf: &mut [u8]) -> Outcome
-    ensures { λ r. ⌜ done r (now (image .exit)) (now (buf .exit)) ≡ packetStep (now (image .entry)) state (now (packet .entry)) (now (buf .entry)) ⌝ }
+    ensures { λ r. ⌜ PacketPromise (now (image .entry)) state (now (packet .entry)) (now (buf .entry)) r (now (image .exit)) (now (buf .exit)) ⌝ }
 {
     if packet.len() != PACKET_LENGTH {
         return refuse(state, NOT_TWELVE_BYTES);
@@ -80,9 +66,9 @@ pub fn packet(image: &mut [u8], state: State, packet: &[u8], buf: &mut [u8]) -> 
     let Judged::Good(h) = header_of(image) else {
         return refuse(state, BROKEN_IMAGE);
     };
-    let sound = keeps_record_rules(h, state);
+    let sound = keeps_record_rules(h.recorded, state);
     if sound {
         return decide(image, h, state, request_of(packet), buf);
     }
-    refuse(state, BROKEN_RECORD)
+    refuse(state, UNRULY_RECORD)
 }

@@ -2,45 +2,52 @@
 ghost use mathlib.Core.Path.{_≡_};
 ghost use Prim.Native.Nat.{_*_, _^_, _<_, _≤_, min};
 ghost use lib.ListN.{length};
-ghost use Rattle.numbers.specs.Over.{over};
 ghost use Rattle.image.specs.Header.{headerOf};
 ghost use Rattle.image.specs.declared.header.Judged.the-variants.{Good};
-ghost use Rattle.stream_parts.specs.Answers.{done};
+ghost use Rattle.packet_parts.specs.Answers.{done};
 ghost use Rattle.stream_parts.specs.Checks.{askedBy};
-ghost use Rattle.stream_parts.specs.Replies.{senseBytes, inquiryBytes, modeLength, modeBytes, positionBytes};
-ghost use Rattle.stream.specs.Work.{endingOf, moves, readWork, writeEnding, writeWork, markWork, spaceRun, spaceWork, firstOf, replyEnds, goodList, selectWork, loadWork, locateWork, workOf};
+ghost use Rattle.packet_parts.specs.Replies.{senseBytes, replyEnds, repliedInto};
+ghost use Rattle.stream_parts.specs.Replies.{streamInquiry, modeLength, modeBytes, positionBytes};
+ghost use Rattle.stream.specs.Work.{endingOf, moves, readWork, writeEnding, writeWork, markWork, spaceRun, spaceWork, goodList, selectWork, loadWork, locateWork, workOf};
 use image::elements::record_to;
 use image::header::Header;
-use numbers::copying::copy_block;
 use numbers::counts::count2;
+use numbers::flags::is_set;
 use opcodes::Command;
-use stream_parts::answers::end;
-use stream_parts::answers::stand_at;
-use stream_parts::checks::is_speed;
-use stream_parts::checks::least;
-use stream_parts::checks::transfer_bytes;
-use stream_parts::replies::INQUIRY;
-use stream_parts::replies::mode_header;
+use packet_parts::answers::end;
+use packet_parts::replies::DEVICE_PAGE;
+use packet_parts::replies::DEVICE_PAGE_LENGTH;
+use packet_parts::replies::inquiry_bytes;
+use packet_parts::replies::mode_header;
+use packet_parts::replies::reply;
+use packet_parts::replies::sense_bytes;
+use packet_parts::requests::Request;
+use packet_parts::requests::transfer_bytes;
+use packet_parts::rules::is_speed;
+use packet_parts::senses::beginning_of_tape;
+use packet_parts::senses::beyond_data;
+use packet_parts::senses::early_warning;
+use packet_parts::senses::end_of_data;
+use packet_parts::senses::filemark_detected;
+use packet_parts::senses::unreadable_block;
+use packet_parts::senses::volume_overflow;
+use packet_parts::senses::wrong_list;
+use packet_parts::state::Ending;
+use packet_parts::state::Outcome;
+use packet_parts::state::State;
+use packet_parts::state::stand_at;
+use packet_parts::state::with_loaded;
+use packet_parts::state::with_speed;
+use stream_parts::replies::AFTER_SHORT;
+use stream_parts::replies::FULL_LIST;
+use stream_parts::replies::POSITION_LENGTH;
+use stream_parts::replies::SHORT_LIST;
 use stream_parts::replies::mode_whole;
 use stream_parts::replies::position_bytes;
-use stream_parts::replies::sense_bytes;
-use stream_parts::requests::DEVICE_PAGE;
 use stream_parts::requests::OVER_BLOCKS;
-use stream_parts::requests::Request;
 use stream_parts::requests::TO_END_OF_DATA;
 use stream_parts::requests::is_back;
 use stream_parts::requests::magnitude_of;
-use stream_parts::senses::beginning_of_tape;
-use stream_parts::senses::beyond_data;
-use stream_parts::senses::early_warning;
-use stream_parts::senses::end_of_data;
-use stream_parts::senses::filemark_detected;
-use stream_parts::senses::unreadable_block;
-use stream_parts::senses::volume_overflow;
-use stream_parts::senses::wrong_list;
-use stream_parts::state::Ending;
-use stream_parts::state::Outcome;
-use stream_parts::state::State;
 use transfer::Moved;
 use transfer::Stop;
 use transfer::reading::read_blocks;
@@ -165,35 +172,29 @@ fn space(image: &[u8], h: Header, state: State, code: u8, count: usize) -> Outco
     end(stand_at(state, moved.place), ending, 0, 0)
 }
 
-// The first of some bytes go to the start of the host's buffer.
-fn reply(bytes: &[u8], asked: usize, state: State, buf: &mut [u8]) -> Outcome
-    requires { ⌜ min asked (length (now bytes)) ≤ length (now buf) ⌝ }
-    ensures { λ r. ⌜ (r ≡ replyEnds (now (bytes .entry)) asked state) × (now (buf .exit) ≡ over (now (buf .entry)) 0 (firstOf (now (bytes .entry)) asked)) ⌝ }
-{
-    let n = least(asked, bytes.len());
-    copy_block(buf, &bytes[..n]);
-    end(state, Ending::Good, 0, n)
-}
-
 fn request_sense(state: State, asked: usize, buf: &mut [u8]) -> Outcome
     requires { ⌜ (state .sense .key ≤ 15) × (min asked 20 ≤ length (now buf)) ⌝ }
-    ensures { λ r. ⌜ (r ≡ replyEnds (senseBytes (state .sense)) asked state) × (now (buf .exit) ≡ over (now (buf .entry)) 0 (firstOf (senseBytes (state .sense)) asked)) ⌝ }
+    ensures { λ r. ⌜ (r ≡ replyEnds (senseBytes (state .sense)) asked state) × (now (buf .exit) ≡ repliedInto (senseBytes (state .sense)) asked (now (buf .entry))) ⌝ }
 {
     let sense = state.sense;
     let bytes = sense_bytes(sense);
     reply(&bytes, asked, state, buf)
 }
 
+// 12h: the device type of a tape.
+const SEQUENTIAL: u8 = 0x01;
+
 fn inquiry(state: State, asked: usize, buf: &mut [u8]) -> Outcome
     requires { ⌜ min asked 36 ≤ length (now buf) ⌝ }
-    ensures { λ r. ⌜ (r ≡ replyEnds inquiryBytes asked state) × (now (buf .exit) ≡ over (now (buf .entry)) 0 (firstOf inquiryBytes asked)) ⌝ }
+    ensures { λ r. ⌜ (r ≡ replyEnds streamInquiry asked state) × (now (buf .exit) ≡ repliedInto streamInquiry asked (now (buf .entry))) ⌝ }
 {
-    reply(&INQUIRY, asked, state, buf)
+    let bytes = inquiry_bytes(SEQUENTIAL);
+    reply(&bytes, asked, state, buf)
 }
 
 fn mode_sense(h: Header, state: State, q: Request, buf: &mut [u8]) -> Outcome
     requires { ⌜ min (q .length) (modeLength q) ≤ length (now buf) ⌝ }
-    ensures { λ r. ⌜ (r ≡ replyEnds (modeBytes h state q) (q .length) state) × (now (buf .exit) ≡ over (now (buf .entry)) 0 (firstOf (modeBytes h state q) (q .length))) ⌝ }
+    ensures { λ r. ⌜ (r ≡ replyEnds (modeBytes h state q) (q .length) state) × (now (buf .exit) ≡ repliedInto (modeBytes h state q) (q .length) (now (buf .entry))) ⌝ }
 {
     let asked = q.length as usize;
     let whole = q.page % 64 == DEVICE_PAGE;
@@ -201,28 +202,27 @@ fn mode_sense(h: Header, state: State, q: Request, buf: &mut [u8]) -> Outcome
         let bytes = mode_whole(h, state);
         return reply(&bytes, asked, state, buf);
     }
-    let bytes = mode_header(h, 11);
+    let bytes = mode_header(h, AFTER_SHORT);
     reply(&bytes, asked, state, buf)
 }
 
 fn read_position(h: Header, state: State, buf: &mut [u8]) -> Outcome
     requires { ⌜ (h .warning ≤ h .capacity) × (20 ≤ length (now buf)) ⌝ }
-    ensures { λ r. ⌜ (r ≡ replyEnds (positionBytes h state) 20 state) × (now (buf .exit) ≡ over (now (buf .entry)) 0 (firstOf (positionBytes h state) 20)) ⌝ }
+    ensures { λ r. ⌜ (r ≡ replyEnds (positionBytes h state) 20 state) × (now (buf .exit) ≡ repliedInto (positionBytes h state) 20 (now (buf .entry))) ⌝ }
 {
     let bytes = position_bytes(h, state);
-    reply(&bytes, 20, state, buf)
+    reply(&bytes, POSITION_LENGTH, state, buf)
 }
 
-const PAGE_LENGTH: u8 = 0x12;
-
-const FULL_LIST: usize = 32;
+// Where the page's speed stands in a list: bytes 14-15 after the header.
+const LIST_SPEED: usize = 26;
 
 fn is_good_list(list: &[u8]) -> bool
     requires { ⌜ 32 ≤ length (now list) ⌝ }
     ensures { λ r. ⌜ r ≡ goodList (now (list .entry)) ⌝ }
 {
-    let known = is_speed(count2(list, 26) as u16);
-    (list[12] == DEVICE_PAGE) & (list[13] == PAGE_LENGTH) & known
+    let known = is_speed(count2(list, LIST_SPEED) as u16);
+    (list[SHORT_LIST] == DEVICE_PAGE) & (list[SHORT_LIST + 1] == DEVICE_PAGE_LENGTH) & known
 }
 
 fn mode_select(state: State, asked: usize, list: &[u8]) -> Outcome
@@ -233,10 +233,8 @@ fn mode_select(state: State, asked: usize, list: &[u8]) -> Outcome
     if full {
         let good = is_good_list(list);
         if good {
-            let mut next = state;
-            let speed = count2(list, 26) as u16;
-            next.speed = speed;
-            return end(next, Ending::Good, 0, asked);
+            let speed = count2(list, LIST_SPEED) as u16;
+            return end(with_speed(state, speed), Ending::Good, 0, asked);
         }
         return end(state, Ending::Check(wrong_list()), 0, 0);
     }
@@ -246,9 +244,7 @@ fn mode_select(state: State, asked: usize, list: &[u8]) -> Outcome
 fn load_unload(state: State, load: bool) -> Outcome
     ensures { λ r. ⌜ r ≡ loadWork state load ⌝ }
 {
-    let mut next = stand_at(state, 0);
-    next.loaded = load;
-    end(next, Ending::Good, 0, 0)
+    end(with_loaded(stand_at(state, 0), load), Ending::Good, 0, 0)
 }
 
 fn locate(h: Header, state: State, target: usize) -> Outcome
@@ -273,8 +269,6 @@ pub fn work(image: &mut [u8], h: Header, state: State, q: Request, buf: &mut [u8
     let command = q.command;
     let count = q.count;
     let asked = q.length as usize;
-    let code = q.flags % 8;
-    let load = q.length % 2 == 1;
     match command {
         Command::Unknown => end(state, Ending::Good, 0, 0),
         Command::TestUnitReady => end(state, Ending::Good, 0, 0),
@@ -283,11 +277,11 @@ pub fn work(image: &mut [u8], h: Header, state: State, q: Request, buf: &mut [u8
         Command::Read => read(image, h, state, count, buf),
         Command::Write => write(image, h, state, count, buf),
         Command::WriteFilemarks => write_marks(image, h, state, count, buf),
-        Command::Space => space(image, h, state, code, count),
+        Command::Space => space(image, h, state, q.flags % 8, count),
         Command::Inquiry => inquiry(state, asked, buf),
         Command::ModeSelect => mode_select(state, asked, buf),
         Command::ModeSense => mode_sense(h, state, q, buf),
-        Command::LoadUnload => load_unload(state, load),
+        Command::LoadUnload => load_unload(state, is_set(q.length, 1)),
         Command::Locate => locate(h, state, q.target),
         Command::ReadPosition => read_position(h, state, buf),
     }

@@ -14,16 +14,17 @@ use Rattle.transfer.specs.declared.Moved.{Moved}
 use Rattle.transfer.specs.declared.Stop.{Stop}
 use Rattle.transfer.specs.declared.Stop.the-variants.{Full, AtFilemark, AtBadBlock, AtEnd, AtBeginning}
 use Rattle.transfer.proofs.EndLaws.{Ended}
-use Rattle.stream_parts.specs.declared.state.Ending.{Ending}
-use Rattle.stream_parts.specs.declared.state.Ending.the-variants.{Good, Check}
-use Rattle.stream_parts.specs.declared.state.Sense.{Sense}
-use Rattle.stream_parts.specs.declared.state.State.{State}
-use Rattle.stream_parts.specs.Answers.{answeredWith, ends, goodStatus, checkCondition}
+use Rattle.packet_parts.specs.declared.state.Ending.{Ending}
+use Rattle.packet_parts.specs.declared.state.Ending.the-variants.{Good, Check}
+use Rattle.packet_parts.specs.declared.state.Sense.{Sense}
+use Rattle.packet_parts.specs.declared.state.State.{State}
+use Rattle.packet_parts.specs.Answers.{answeredWith, ends, goodStatus, checkCondition}
+use Rattle.packet_parts.proofs.VerdictLaws.{Modest}
 use Rattle.stream_parts.specs.Replies.{pastWarning}
-use Rattle.stream_parts.specs.Senses.{noSense, volumeOverflow, earlyWarning}
-use Rattle.stream_parts.specs.States.{speeds, highestKey, keepsRecordRules}
+use Rattle.packet_parts.specs.Senses.{noSense, volumeOverflow, earlyWarning}
+use Rattle.packet_parts.specs.States.{speeds, highestKey, keepsRecordRules}
 use Rattle.stream.specs.Work.{endingOf, writeEnding}
-use Rattle.stream_laws.specs.Words.{residueOf}
+use Rattle.packet_laws.specs.Words.{residueOf}
 
 abbrev pub senseOf : Ending → Sense
 senseOf Good = noSense
@@ -39,10 +40,6 @@ ends-is st Good blocks bytes = refl
 ends-is st (Check x) blocks bytes = refl
 
 -- ---- keys and information
-
--- a sense whose key keeps refusal 3's rule, with information n at most
-abbrev pub Modest : ℕ → Sense → Type 0
-Modest n x = (x .key ≤ highestKey) × (x .information ≤ n)
 
 pub ending-modest : (stop : Stop) (left : ℕ) → Modest left (senseOf (endingOf stop left))
 unfolding endingOf
@@ -86,18 +83,18 @@ write-residue h n m e = by (leb 1 (m .left)) (leb 1 n && pastWarning h (m .place
 
 -- ---- refusal 3's rules
 
-pub record Ruly (h : Header) (st : State) : Type 0 where
-  pub place : st .position ≤ h .recorded
+pub record Ruly (end : ℕ) (st : State) : Type 0 where
+  pub place : st .position ≤ end
   pub speed : isIn (st .speed) speeds ≡ true
   pub key : st .sense .key ≤ highestKey
 
-pub ruly-of : (h : Header) (st : State) → keepsRecordRules h st ≡ true → Ruly h st
+pub ruly-of : (end : ℕ) (st : State) → keepsRecordRules end st ≡ true → Ruly end st
 unfolding keepsRecordRules
-ruly-of h st e =
-    let p = split (leb (st .position) (h .recorded) && isIn (st .speed) speeds) (leb (st .sense .key) highestKey) e in
-    let r = split (leb (st .position) (h .recorded)) (isIn (st .speed) speeds) (p .0) in
+ruly-of end st e =
+    let p = split (leb (st .position) end && isIn (st .speed) speeds) (leb (st .sense .key) highestKey) e in
+    let r = split (leb (st .position) end) (isIn (st .speed) speeds) (p .0) in
     record { place = leb-true _ _ (r .0); speed = r .1; key = leb-true _ _ (p .1) }
 
-pub of-ruly : (h : Header) (st : State) → Ruly h st → keepsRecordRules h st ≡ true
+pub of-ruly : (end : ℕ) (st : State) → Ruly end st → keepsRecordRules end st ≡ true
 unfolding keepsRecordRules
-of-ruly h st r = rw (le-leb _ _ (r .place), r .speed, le-leb _ _ (r .key))
+of-ruly end st r = rw (le-leb _ _ (r .place), r .speed, le-leb _ _ (r .key))

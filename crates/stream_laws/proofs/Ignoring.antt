@@ -10,11 +10,10 @@ use lib.Dec.{eqb}
 use lib.ListN.{length}
 use Rattle.numbers.specs.Choice.{if_then_else_}
 use Rattle.image.specs.declared.header.Header.{Header}
-use Rattle.image.specs.declared.header.Judged.{Judged}
-use Rattle.image.specs.declared.header.Judged.the-variants.{Good as GoodHeader, Broken}
+use Rattle.image.specs.declared.header.Judged.the-variants.{Good as GoodHeader}
 use Rattle.image.specs.Elements.{holdsData, recordTo}
-use Rattle.image.specs.Header.{headerOf}
-use Rattle.image.proofs.HeaderLaws.{fields-are, sound}
+use Rattle.image.specs.Header.{fieldsOf, headerOf, keepsHeaderRules, brokenImage}
+use Rattle.image.proofs.HeaderLaws.{fields-are, keeps-of, broken-of, good-header, broken-header, sound}
 use Rattle.image.specs.Sameness.{ReadsSame}
 use Rattle.image.proofs.StoreLaws.{mark-laid, after-either, record-header, record-kind, record-bytes}
 use Rattle.opcodes.specs.declared.Command.{Command}
@@ -22,20 +21,23 @@ use Rattle.opcodes.specs.declared.Command.the-variants.{Unknown, TestUnitReady,
 use Rattle.transfer.proofs.LaidLaws.{block-of}
 use Rattle.transfer.proofs.SameLaws.{Same, of-alike, LaidSame, laid-same, mark-same, block-same, read-same, blocks-on-same, blocks-back-same, marks-on-same, marks-back-same}
 use Rattle.transfer.specs.Writing.{Writing}
-use Rattle.stream_parts.specs.declared.requests.Request.{Request}
-use Rattle.stream_parts.specs.declared.state.Outcome.{Outcome}
-use Rattle.stream_parts.specs.declared.state.State.{State}
-use Rattle.stream_parts.specs.declared.state.Verdict.{Verdict}
-use Rattle.stream_parts.specs.Answers.{Step, done, refused, notTwelveBytes, brokenRecord}
+use Rattle.packet_parts.specs.declared.requests.Request.{Request}
+use Rattle.packet_parts.specs.declared.state.Outcome.{Outcome}
+use Rattle.packet_parts.specs.declared.state.State.{State}
+use Rattle.packet_parts.specs.declared.state.Verdict.{Verdict}
+use Rattle.packet_parts.specs.Answers.{Left, done, notTwelveBytes, unrulyRecord}
 use Rattle.stream_parts.specs.Checks.{askedBy}
 use Rattle.stream_parts.specs.Requests.{requestOf, magnitude, spaceCode}
-use Rattle.stream_parts.specs.States.{keepsRecordRules}
-use Rattle.stream.specs.Packet.{packetLength, packetStep, judged, decided, carriedOut}
+use Rattle.packet_parts.specs.States.{keepsRecordRules}
+use Rattle.packet_parts.specs.Requests.{packetLength}
+use Rattle.packet_parts.specs.Shell.{refuses, carriedOut, decided, answersTo}
+use Rattle.packet_parts.specs.Verdicts.{isProtected}
+use Rattle.packet_parts.proofs.VerdictLaws.{Found, found-early, found-short, found-clear, found}
+use Rattle.stream.specs.Packet.{streamDevice, packetStep}
 use Rattle.stream.specs.Work.{workOf, readWork, readEnds, spaceRun, spaceWork, writeWork, markWork, writeEnds}
 use Rattle.stream_laws.specs.Words.{AlikeBelowU}
 use Rattle.stream_laws.specs.Demands.{BeyondIgnored}
 use Rattle.stream_laws.proofs.Endings.{ruly-of}
-use Rattle.stream_laws.proofs.Ways.{Found, found-early, found-short, found-clear, found}
 
 -- ---- runs, and U recorded after them
 
@@ -59,18 +61,19 @@ module _ (h : Header) where
 
 -- ---- the whole packet
 
-record AnsweredSame (x y : Step) : Type 0 where
-  out : y .out ≡ x .out
+record AnsweredSame (x y : Left State) : Type 0 where
+  answer : y .answer ≡ x .answer
+  state : y .state ≡ x .state
   buf : y .buf ≡ x .buf
   images : AlikeBelowU (x .image) (y .image)
 
 module _ (s t : List ℕ) (alike : AlikeBelowU s t) (st : State) where
   looked : (out : Outcome) (buf : List ℕ) → AnsweredSame (done out s buf) (done out t buf)
-  looked out buf = record { out = refl; buf = refl; images = alike }
+  looked out buf = record { answer = refl; state = refl; buf = refl; images = alike }
 
-  module _ (h : Header) (good : headerOf s ≡ GoodHeader h) (rules : keepsRecordRules h st ≡ true) (q : Request) (buf : List ℕ) where
+  module _ (h : Header) (good : headerOf s ≡ GoodHeader h) (rules : keepsRecordRules (h .recorded) st ≡ true) (q : Request) (buf : List ℕ) where
     within : st .position ≤ h .recorded
-    within = ruly-of h st rules .place
+    within = ruly-of (h .recorded) st rules .place
 
     inside : st .position ≤ h .capacity
     inside =
@@ -90,7 +93,7 @@ module _ (s t : List ℕ) (alike : AlikeBelowU s t) (st : State) where
     wrote : (size : ℕ) (X Y : Writing) → LaidSame h (h .recorded) X Y → AnsweredSame (writeEnds h st (q .count) size buf X) (writeEnds h st (q .count) size buf Y)
     unfolding writeEnds
     wrote size X Y a =
-        record { out = rw (a .moved); buf = refl; images = rw (a .moved) (recorded-same h (st .position) (X .moved .place) (X .image) (Y .image) (a .images) (a .reached)) }
+        record { answer = rw (a .moved); state = rw (a .moved); buf = refl; images = rw (a .moved) (recorded-same h (st .position) (X .moved .place) (X .image) (Y .image) (a .images) (a .reached)) }
 
     space-same : (code n : ℕ) → spaceRun t h (st .position) code n ≡ spaceRun s h (st .position) code n
     unfolding spaceRun
@@ -119,33 +122,51 @@ module _ (s t : List ℕ) (alike : AlikeBelowU s t) (st : State) where
     work-same Locate l = looked _ _
     work-same ReadPosition l = looked _ _
 
-    verdict-same : {v : Verdict} → Found h st q (length buf) v → AnsweredSame (carriedOut v s h st q buf) (carriedOut v t h st q buf)
+    verdict-same : {v : Verdict} → Found (askedBy (q .command) h q) (isProtected h) st (length buf) v
+        → AnsweredSame (carriedOut streamDevice v s h st q buf) (carriedOut streamDevice v t h st q buf)
     unfolding carriedOut
     verdict-same (found-early x e k) = looked _ _
     verdict-same (found-short e l) = looked _ _
     verdict-same (found-clear e l) = work-same (q .command) l
 
-  packet-same : (packet buf : List ℕ) → AnsweredSame (packetStep s st packet buf) (packetStep t st packet buf)
-  unfolding packetStep judged decided
-  packet-same packet buf = rw (alike .header) (by (eqb (length packet) packetLength) (headerOf s) refl)
-    where
-      by-rules : (h : Header) → headerOf s ≡ GoodHeader h → (b : Bool) → keepsRecordRules h st ≡ b
-          → AnsweredSame (if not b then done (refused st brokenRecord) s buf else decided s h st (requestOf packet) buf)
-          (if not b then done (refused st brokenRecord) t buf else decided t h st (requestOf packet) buf)
-      by-rules h e true r = verdict-same h e r (requestOf packet) buf (found h st (requestOf packet) (length buf))
-      by-rules h e false r = looked _ _
+  same-fields : keepsHeaderRules s ≡ true → fieldsOf t ≡ fieldsOf s
+  same-fields e = fields-are t (fieldsOf s) (alike .header ∙ good-header s e)
 
-      by : (a : Bool) (j : Judged) → headerOf s ≡ j
-          → AnsweredSame (if not a then done (refused st notTwelveBytes) s buf else judged j s st packet buf)
-          (if not a then done (refused st notTwelveBytes) t buf else judged j t st packet buf)
-      by false j e = looked _ _
-      by true Broken e = looked _ _
-      by true (GoodHeader h) e = by-rules h e (keepsRecordRules h st) refl
+  same-rules : keepsHeaderRules t ≡ keepsHeaderRules s
+  same-rules = by (keepsHeaderRules s) refl
+    where
+      by : (b : Bool) → keepsHeaderRules s ≡ b → keepsHeaderRules t ≡ keepsHeaderRules s
+      by true e = keeps-of t (fieldsOf s) (alike .header ∙ good-header s e) ∙ sym e
+      by false e = broken-of t (alike .header ∙ broken-header s e) ∙ sym e
+
+  -- the order of the checks, over the image i with the header h
+  abbrev after : List ℕ → List ℕ → List ℕ → Header → Bool → Bool → Bool → Left State
+  after packet buf i h a b c =
+      if not a then refuses st notTwelveBytes i buf else
+      if not b then refuses st brokenImage i buf else
+      if not c then refuses st unrulyRecord i buf else
+      decided streamDevice i h st (requestOf packet) buf
+
+  packet-same : (packet buf : List ℕ) → AnsweredSame (packetStep s st packet buf) (packetStep t st packet buf)
+  unfolding answersTo decided
+  packet-same packet buf = rw same-rules (by (eqb (length packet) packetLength) (keepsHeaderRules s) refl)
+    where
+      by-rules : (c : Bool) → keepsHeaderRules s ≡ true → keepsRecordRules (fieldsOf s .recorded) st ≡ c
+          → AnsweredSame (after packet buf s (fieldsOf s) true true c) (after packet buf t (fieldsOf s) true true c)
+      by-rules true g r = verdict-same (fieldsOf s) (good-header s g) r (requestOf packet) buf (found _ _ _ _)
+      by-rules false g r = looked _ _
+
+      by : (a b : Bool) → keepsHeaderRules s ≡ b
+          → AnsweredSame (after packet buf s (fieldsOf s) a b (keepsRecordRules (fieldsOf s .recorded) st)) (after packet buf t (fieldsOf t) a b (keepsRecordRules (fieldsOf t .recorded) st))
+      by false b e = looked _ _
+      by true false e = looked _ _
+      by true true e = rw (same-fields e) (by-rules (keepsRecordRules (fieldsOf s .recorded) st) e refl)
 
 pub beyond-ignored : BeyondIgnored
 beyond-ignored =
     record {
-      outcome = λ s t st packet buf a. packet-same s t a st packet buf .out;
+      answer = λ s t st packet buf a. packet-same s t a st packet buf .answer;
+      state = λ s t st packet buf a. packet-same s t a st packet buf .state;
       given = λ s t st packet buf a. packet-same s t a st packet buf .buf;
       left = λ s t st packet buf a. packet-same s t a st packet buf .images;
     }

@@ -1,6 +1,6 @@
 -- What an accepted packet leaves: one case split over the commands.
 -- Assumes nothing.
-use Prim.Native.Nat.{ℕ, _+_, _*_, _-_, _≤_, _<_, min}
+use Prim.Native.Nat.{ℕ, _+_, _*_, _-_, _^_, _≤_, _<_, min}
 use native.Mathlib.Nat.{le-refl, mul-le-mul-left, mul-le-mul-right}
 use native.Mathlib.Omega.{arith}
 use mathlib.Core.Bool.{Bool, true, false, not, _&&_, false≢true}
@@ -31,38 +31,46 @@ use Rattle.transfer.proofs.ReadLaws.{read-run, read-left, read-place, read-leng
 use Rattle.transfer.proofs.WriteLaws.{lay-run, lay-left, lay-passed}
 use Rattle.transfer.proofs.LaidLaws.{Laid, Apart, marks-laid, blocks-laid}
 use Rattle.transfer.proofs.SpaceLaws.{blocks-on-ended, blocks-on-place, blocks-back-ended, blocks-back-place, marks-on-ended, marks-on-place, marks-back-ended, marks-back-place}
-use Rattle.stream_parts.specs.declared.requests.Request.{Request}
-use Rattle.stream_parts.specs.declared.state.Ending.{Ending}
-use Rattle.stream_parts.specs.declared.state.Ending.the-variants.{Good, Check}
-use Rattle.stream_parts.specs.declared.state.Outcome.{Outcome}
-use Rattle.stream_parts.specs.declared.state.Sense.{Sense}
-use Rattle.stream_parts.specs.declared.state.State.{State}
-use Rattle.stream_parts.specs.Answers.{Step, done, ends, endsBefore}
+use Rattle.packet_parts.specs.declared.requests.Request.{Request}
+use Rattle.packet_parts.specs.declared.state.Ending.{Ending}
+use Rattle.packet_parts.specs.declared.state.Ending.the-variants.{Good, Check}
+use Rattle.packet_parts.specs.declared.state.Outcome.{Outcome}
+use Rattle.packet_parts.specs.declared.state.Sense.{Sense}
+use Rattle.packet_parts.specs.declared.state.State.{State}
+use Rattle.packet_parts.specs.Answers.{Left, done, ends, endsBefore}
 use Rattle.stream_parts.specs.Checks.{askedBy}
-use Rattle.stream_parts.specs.Replies.{positionLength, senseBytes, inquiryBytes, modeBytes, positionBytes, modeLength, hasPage, modeHeader, modePage}
-use Rattle.stream.specs.Packet.{packetStep}
-use Rattle.stream_parts.specs.Requests.{requestOf, spaceCode, isBack, devicePage, overBlocks, toEndOfData, shortList, fullList, magnitude, loadBit}
-use Rattle.stream_parts.specs.Senses.{wrongList, beyondData}
-use Rattle.stream_parts.specs.States.{speeds, keepsRecordRules, atPlace, withSpeed}
-use Rattle.stream.specs.Work.{moves, endingOf, readEnds, readWork, writeEnding, writeEnds, writeWork, markWork, spaceRun, spaceEnds, spaceWork, firstOf, replyEnds, replyWork, listSpeed, goodList, selectWork, loadWork, locateWork, workOf}
-use Rattle.stream_laws.specs.Words.{storesOn, stores, gives, numberOf, blocksOf, bytesOf, stateOf, Untouched}
-use Rattle.stream_laws.proofs.Endings.{senseOf, ends-is, Modest, ending-modest, write-modest, Ruly, ruly-of}
-use Rattle.stream_laws.proofs.Ways.{Way, cut, broken, unruly, short, ends-early, works, way}
+use Rattle.packet_parts.specs.Replies.{senseBytes, devicePage, devicePageLength, shortList, fullList, modeHeader, firstOf, replyEnds, repliedInto}
+use Rattle.packet_parts.specs.Requests.{loadBit}
+use Rattle.packet_parts.specs.Shell.{carriedOut}
+use Rattle.packet_parts.proofs.VerdictLaws.{Modest}
+use Rattle.stream_parts.specs.Replies.{positionLength, streamInquiry, modeBytes, positionBytes, modeLength, hasPage, modePage}
+use Rattle.stream.specs.Packet.{streamDevice, packetStep}
+use Rattle.stream_parts.specs.Requests.{requestOf, spaceCode, isBack, overBlocks, toEndOfData, magnitude}
+use Rattle.packet_parts.specs.Senses.{wrongList, beyondData}
+use Rattle.packet_parts.specs.States.{speeds, keepsRecordRules, atPlace, withLoaded, withSpeed}
+use Rattle.stream.specs.Work.{moves, endingOf, readEnds, readWork, writeEnding, writeEnds, writeWork, markWork, spaceRun, spaceEnds, spaceWork, replyWork, listSpeed, goodList, selectWork, loadWork, locateWork, workOf}
+use Rattle.packet_laws.specs.Words.{numberOf, blocksOf, bytesOf}
+use Rattle.packet_laws.proofs.Ways.{Way, cut, broken, unruly, short, ends-early, works, way}
+use Rattle.stream_laws.specs.Words.{storesOn, stores, gives, Untouched}
+use Rattle.stream_laws.proofs.Endings.{senseOf, ends-is, ending-modest, write-modest, Ruly, ruly-of}
 
 -- the outcome of a packet that is not refused: the record it leaves is in rule, and its numbers go by what was asked for
 pub record Accepted (h : Header) (q : Request) (x : Outcome) : Type 0 where
   pub number : x .answer .number ≡ 0
-  pub ruly : Ruly h (x .state)
+  pub ruly : Ruly (h .recorded) (x .state)
   pub information : x .state .sense .information ≤ q .count
   pub blocks : x .answer .blocks ≤ h .capacity
   pub bytes : x .answer .bytes ≤ x .answer .blocks * h .size + (q .length + positionLength)
 
-pub record Leaves (s : List ℕ) (st : State) (q : Request) (buf : List ℕ) (storing giving : Bool) (x : Step) : Type 0 where
+abbrev pub outcomeOf : Left State → Outcome
+outcomeOf x = record { answer = x .answer; state = x .state }
+
+pub record Leaves (s : List ℕ) (st : State) (q : Request) (buf : List ℕ) (storing giving : Bool) (x : Left State) : Type 0 where
   pub u : ℕ
   pub header : headerOf (x .image) ≡ GoodHeader (withRecorded (fieldsOf s) u)
   pub reached : st .position ≤ u
-  pub new-u : storing ≡ true → 1 ≤ blocksOf x → u ≡ stateOf x .position
-  pub accepted : Accepted (withRecorded (fieldsOf s) u) q (x .out)
+  pub new-u : storing ≡ true → 1 ≤ blocksOf x → u ≡ x .state .position
+  pub accepted : Accepted (withRecorded (fieldsOf s) u) q (outcomeOf x)
   pub image-length : length (x .image) ≡ length s
   pub buf-length : length (x .buf) ≡ length buf
   pub buf-beyond : (i : ℕ) → bytesOf x ≤ i → getD (x .buf) i 0 ≡ getD buf i 0
@@ -72,7 +80,7 @@ pub record Leaves (s : List ℕ) (st : State) (q : Request) (buf : List ℕ) (st
   pub none-stored : blocksOf x ≡ 0 → x .image ≡ s
   pub no-store : storing ≡ false → x .image ≡ s
 
-module _ (s : List ℕ) (st : State) (q : Request) (buf : List ℕ) (good : keepsHeaderRules s ≡ true) (rules : keepsRecordRules (fieldsOf s) st ≡ true) where
+module _ (s : List ℕ) (st : State) (q : Request) (buf : List ℕ) (good : keepsHeaderRules s ≡ true) (rules : keepsRecordRules (fieldsOf s .recorded) st ≡ true) where
   abbrev h : Header
   h = fieldsOf s
 
@@ -83,8 +91,8 @@ module _ (s : List ℕ) (st : State) (q : Request) (buf : List ℕ) (good : keep
   abbrev n : ℕ
   n = q .count
 
-  kept-rules : Ruly h st
-  kept-rules = ruly-of h st rules
+  kept-rules : Ruly (h .recorded) st
+  kept-rules = ruly-of (h .recorded) st rules
 
   -- ---- commands that keep the image
 
@@ -123,7 +131,7 @@ module _ (s : List ℕ) (st : State) (q : Request) (buf : List ℕ) (good : keep
   pub early-leaves : (storing giving : Bool) (x : Sense) → Modest 0 x → Leaves s st q buf storing giving (done (endsBefore st x) s buf)
   early-leaves storing giving x m =
       let r = kept-rules in
-      let k : Ruly h (endsBefore st x .state) = record { place = r .place; speed = r .speed; key = m .0 } in
+      let k : Ruly (h .recorded) (endsBefore st x .state) = record { place = r .place; speed = r .speed; key = m .0 } in
       stays storing giving (endsBefore st x) buf
       (record { number = refl; ruly = k; information = omega arith; blocks = omega arith; bytes = omega arith }) refl (λ i l. refl) (λ f. refl) (λ f. refl)
 
@@ -137,7 +145,7 @@ module _ (s : List ℕ) (st : State) (q : Request) (buf : List ℕ) (good : keep
   replies bytes asked most l =
       let r = kept-rules in
       let f = first-length bytes asked in
-      stays false true (ends st Good 0 (min asked (length bytes))) (over buf 0 (firstOf bytes asked))
+      stays false true (ends st Good 0 (min asked (length bytes))) (repliedInto bytes asked buf)
       (ended (h .recorded) st Good 0 _ (r .place) (r .speed) (omega arith) (omega arith) (omega arith)) (over-length buf (firstOf bytes asked) 0 (omega arith))
       (λ i m. over-above buf (firstOf bytes asked) 0 i (omega arith) (omega (arith, rw ends-is at m)))
       (λ f. absurd (false≢true (sym f)))
@@ -170,10 +178,10 @@ module _ (s : List ℕ) (st : State) (q : Request) (buf : List ℕ) (good : keep
   -- the way back is no longer than its two's complement
   far-most : far ≤ n
   unfolding magnitude isBack
-  far-most = by (leb 8388608 n) refl
+  far-most = by (leb (2 ^ 23) n) refl
     where
-      by : (b : Bool) → leb 8388608 n ≡ b → (if b then 16777216 - n else n) ≤ n
-      by true e = omega (arith, leb-true 8388608 n e)
+      by : (b : Bool) → leb (2 ^ 23) n ≡ b → (if b then 2 ^ 24 - n else n) ≤ n
+      by true e = omega (arith, leb-true (2 ^ 23) n e)
       by false e = le-refl n
 
   abbrev Spaced : Moved → Type 0
@@ -205,7 +213,7 @@ module _ (s : List ℕ) (st : State) (q : Request) (buf : List ℕ) (good : keep
 
   good-speed : goodList buf ≡ true → isIn (listSpeed buf) speeds ≡ true
   unfolding goodList
-  good-speed e = split (eqb (getD buf 12 0) devicePage && eqb (getD buf 13 0) 0x12) (isIn (listSpeed buf) speeds) e .1
+  good-speed e = split (eqb (getD buf shortList 0) devicePage && eqb (getD buf (shortList + 1) 0) devicePageLength) (isIn (listSpeed buf) speeds) e .1
 
   selects : Leaves s st q buf false false (done (selectWork st (q .length) buf) s buf)
   unfolding selectWork
@@ -234,7 +242,7 @@ module _ (s : List ℕ) (st : State) (q : Request) (buf : List ℕ) (good : keep
   mode-length : length (modeBytes h st q) ≡ modeLength q
   mode-length = by (hasPage q)
     where
-      by : (a : Bool) → length (if a then modeHeader h 31 ++ modePage h st else modeHeader h 11) ≡ (if a then fullList else shortList)
+      by : (a : Bool) → length (if a then modeHeader h (fullList - 1) ++ modePage h st else modeHeader h (shortList - 1)) ≡ (if a then fullList else shortList)
       by true = refl
       by false = refl
 
@@ -323,7 +331,7 @@ module _ (s : List ℕ) (st : State) (q : Request) (buf : List ℕ) (good : keep
   work-leaves Write l = writes l
   work-leaves WriteFilemarks l = marks
   work-leaves Space l = spaces (spaceCode q)
-  work-leaves Inquiry l = replies inquiryBytes (q .length) (omega arith) l
+  work-leaves Inquiry l = replies streamInquiry (q .length) (omega arith) l
   work-leaves ModeSelect l = selects
   work-leaves ModeSense l = replies (modeBytes h st q) (q .length) (omega arith) (rw mode-length l)
   work-leaves LoadUnload l = loads (loadBit q)
@@ -332,7 +340,11 @@ module _ (s : List ℕ) (st : State) (q : Request) (buf : List ℕ) (good : keep
 
 -- every packet that is not refused
 module _ (s : List ℕ) (st : State) (packet buf : List ℕ) where
-  accepted-by : {x : Step} → Way s st packet buf x → numberOf x ≡ 0 → Leaves s st (requestOf packet) buf (stores packet) (gives (requestOf packet .command)) x
+  abbrev LeavesSo : Left State → Type 0
+  LeavesSo x = Leaves s st (requestOf packet) buf (stores packet) (gives (requestOf packet .command)) x
+
+  accepted-by : {x : Left State} → Way streamDevice s st packet buf x → numberOf x ≡ 0 → LeavesSo x
+  unfolding carriedOut
   accepted-by (cut n) e = absurd (omega arith)
   accepted-by (broken t b) e = absurd (omega arith)
   accepted-by (unruly t g b) e = absurd (omega arith)
@@ -340,6 +352,5 @@ module _ (s : List ℕ) (st : State) (packet buf : List ℕ) where
   accepted-by (ends-early p x f k) e = early-leaves s st (requestOf packet) buf (p .good) (p .ruly) (stores packet) (gives (requestOf packet .command)) x k
   accepted-by (works p f l) e = work-leaves s st (requestOf packet) buf (p .good) (p .ruly) (requestOf packet .command) l
 
-  pub accepted-leaves : numberOf (packetStep s st packet buf) ≡ 0
-      → Leaves s st (requestOf packet) buf (stores packet) (gives (requestOf packet .command)) (packetStep s st packet buf)
-  accepted-leaves e = accepted-by (way s st packet buf) e
+  pub accepted-leaves : numberOf (packetStep s st packet buf) ≡ 0 → LeavesSo (packetStep s st packet buf)
+  accepted-leaves e = accepted-by (way streamDevice s st packet buf) e

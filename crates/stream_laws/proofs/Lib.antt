@@ -5,5 +5,4 @@ pub mod Leaving
 pub mod PlateTable
 pub mod ReadingBack
 pub mod Refusals
-pub mod Ways
 pub mod Working

@@ -23,27 +23,27 @@ use Rattle.transfer.specs.Writing.{blockOf, writeFrom}
 use Rattle.transfer.proofs.ReadLaws.{read-run, read-left, read-block, data-moved, read-first}
 use Rattle.transfer.proofs.LaidLaws.{blocks-laid, blocks-read-back}
 use Rattle.transfer.proofs.WriteLaws.{lay-run, lay-left, lay-passed}
-use Rattle.stream_parts.specs.declared.requests.Request.{Request}
-use Rattle.stream_parts.specs.declared.state.State.{State}
-use Rattle.stream_parts.specs.Answers.{Step}
+use Rattle.packet_parts.specs.declared.requests.Request.{Request}
+use Rattle.packet_parts.specs.declared.state.State.{State}
+use Rattle.packet_parts.specs.Answers.{Left}
 use Rattle.stream_parts.specs.Checks.{askedBy}
-use Rattle.stream.specs.Packet.{packetStep}
+use Rattle.stream.specs.Packet.{streamDevice, packetStep}
 use Rattle.stream_parts.specs.Requests.{requestOf}
 use Rattle.stream.specs.Work.{workOf, readWork, readEnds, writeWork, writeEnds}
-use Rattle.stream_laws.specs.Words.{numberOf, blocksOf, Begins, stores, gives, IsRecorded}
+use Rattle.packet_laws.specs.Words.{numberOf, blocksOf, Passes}
+use Rattle.packet_laws.proofs.Refusals.{begins-passes, begins-room, begins-work}
+use Rattle.stream_laws.specs.Words.{BeginsWork, stores, gives, IsRecorded}
 use Rattle.stream_laws.specs.History.{StoresUpTo, Later, at-once, asked, replaced}
 use Rattle.stream_laws.specs.Demands.{ReadsBack, ReadGives, ReadMoves}
 use Rattle.stream_laws.proofs.Endings.{ends-is, ruly-of}
 use Rattle.stream_laws.proofs.Leaving.{Leaves, accepted-leaves}
 use Rattle.stream_laws.proofs.Refusals.{refused-keeps}
-use Rattle.stream_laws.proofs.Ways.{Passes}
-use Rattle.stream_laws.proofs.Working.{begins-passes, begins-room, begins-work}
 
 -- ---- one packet
 
 module _ (i : ℕ) (bytes : List ℕ) (s : List ℕ) (st : State) (packet buf : List ℕ) (block : IsRecorded s i bytes)
     (spared : StoresUpTo i s st packet buf → ⊥) where
-  abbrev x : Step
+  abbrev x : Left State
   x = packetStep s st packet buf
 
   same-image : x .image ≡ s → IsRecorded (x .image) i bytes
@@ -131,37 +131,37 @@ module _ (s : List ℕ) (st : State) (q : Request) (buf : List ℕ) (good : head
       let z = read-block s (h .size) (h .kinds) (h .blocks) (h .recorded) n 0 (st .position) buf (omega arith) (g .recorded-blocks) k m in
       is-block _ s h (st .position + k) _ good (d .0) (d .1) (sym (rw zero-add at z))
 
-module _ (s : List ℕ) (st : State) (packet buf : List ℕ) (b : Begins s st packet buf) where
-  abbrev p : Passes s st packet buf
-  p = begins-passes s st packet buf b
+module _ (s : List ℕ) (st : State) (packet buf : List ℕ) (b : BeginsWork s st packet buf) where
+  abbrev p : Passes streamDevice s st packet buf
+  p = begins-passes streamDevice s st packet buf b
 
   -- the packet's outcome under its command
   step-is : (c : Command) → requestOf packet .command ≡ c → packetStep s st packet buf ≡ workOf c s (fieldsOf s) st (requestOf packet) buf
-  step-is c e = rw (← e) (begins-work s st packet buf b)
+  step-is c e = rw (← e) (begins-work streamDevice s st packet buf b)
 
   room-is : (c : Command) → requestOf packet .command ≡ c → askedBy c (fieldsOf s) (requestOf packet) .needed ≤ length buf
-  room-is c e = rw (← e) (begins-room s st packet buf b)
+  room-is c e = rw (← e) (begins-room streamDevice s st packet buf b)
 
 pub read-gives : ReadGives
 unfolding workOf askedBy
 read-gives s st packet buf b c =
-    let p = begins-passes s st packet buf b in
+    let p = begins-passes streamDevice s st packet buf b in
     rw (step-is s st packet buf b Read c)
     (copied-whole s st (requestOf packet) buf (good-header s (p .good)) (ruly-of _ _ (p .ruly) .place) (room-is s st packet buf b Read c))
 
 pub read-moves : ReadMoves
 unfolding workOf askedBy
 read-moves s st packet buf bytes b c =
-    let p = begins-passes s st packet buf b in
+    let p = begins-passes streamDevice s st packet buf b in
     rw (step-is s st packet buf b Read c)
     (moves-first s st (requestOf packet) buf (good-header s (p .good)) (ruly-of _ _ (p .ruly) .place) (room-is s st packet buf b Read c) bytes)
 
-block-stored : (s : List ℕ) (st : State) (packet buf : List ℕ) → Begins s st packet buf → requestOf packet .command ≡ Write
+block-stored : (s : List ℕ) (st : State) (packet buf : List ℕ) → BeginsWork s st packet buf → requestOf packet .command ≡ Write
     → (j : ℕ) → j < blocksOf (packetStep s st packet buf)
     → IsRecorded (packetStep s st packet buf .image) (st .position + j) (part buf (j * fieldsOf s .size) (fieldsOf s .size))
 unfolding workOf askedBy
 block-stored s st packet buf b c j n =
-    let p = begins-passes s st packet buf b in
+    let p = begins-passes streamDevice s st packet buf b in
     let e = step-is s st packet buf b Write c in
     rw e (written s st (requestOf packet) buf (good-header s (p .good)) (ruly-of _ _ (p .ruly) .place) (room-is s st packet buf b Write c) j (rw e at n))
 

@@ -3,52 +3,50 @@
 use Prim.Native.Nat.{ℕ, _+_, _*_, _≤_, _<_}
 use mathlib.Core.Bool.{true}
 use mathlib.Core.List.{List}
-use mathlib.Core.Logic.{_↔_}
 use mathlib.Core.Path.{_≡_}
-use lib.ListN.{length}
 use Rattle.numbers.specs.Over.{part}
 use Rattle.image.specs.Header.{fieldsOf, keepsHeaderRules, withRecorded}
 use Rattle.opcodes.specs.declared.Command.the-variants.{Read, Write}
-use Rattle.stream_parts.specs.declared.state.Outcome.{Outcome}
-use Rattle.stream_parts.specs.declared.state.State.{State}
-use Rattle.stream_parts.specs.Answers.{done, notTwelveBytes}
-use Rattle.stream.specs.Packet.{packetLength, packetStep}
+use Rattle.packet_parts.specs.declared.state.Outcome.{Outcome}
+use Rattle.packet_parts.specs.declared.state.State.{State}
+use Rattle.packet_parts.specs.States.{keepsRecordRules}
+use Rattle.packet_laws.specs.Promises.{CutPacket as CutPacketOf, RefusedKeeps as RefusedKeepsOf, NumberExactly as NumberExactlyOf, BeginsExactly as BeginsExactlyOf}
+use Rattle.packet_laws.specs.Words.{numberOf, blocksOf, residueOf}
 use Rattle.stream_parts.specs.Requests.{requestOf}
-use Rattle.stream_parts.specs.States.{freshState, changedState, keepsRecordRules}
-use Rattle.stream_laws.specs.Plates.{every, plates}
-use Rattle.stream_laws.specs.Words.{numberOf, blocksOf, stateOf, residueOf, Refusal, Due, Begins, Moves, IsRecorded, EveryReadGives, Kept, AlikeBelowU}
+use Rattle.stream.specs.Packet.{FreshPromise, ChangedPromise, PacketPromise, streamDevice, packetStep}
 use Rattle.stream_laws.specs.History.{Later}
+use Rattle.stream_laws.specs.Plates.{allAgree, plates}
+use Rattle.stream_laws.specs.Words.{BeginsWork, Moves, IsRecorded, EveryReadGives, Kept, AlikeBelowU}
 
--- "1: packet is not 12 bytes", whatever the image, the record and the buffer; nothing changes.
+-- What every packet device promises: "1: packet is not 12 bytes", whatever the image, the record and the buffer; nothing changes.
 abbrev pub CutPacket : Type 0
-CutPacket =
-    (s : List ℕ) (st : State) (packet buf : List ℕ) → (length packet ≡ packetLength → ⊥)
-    → (numberOf (packetStep s st packet buf) ≡ notTwelveBytes) × Refusal s st buf (packetStep s st packet buf)
+CutPacket = CutPacketOf streamDevice
 
 -- "A refused call gives its number, and image, buffers and record are then as they were."
 abbrev pub RefusedKeeps : Type 0
-RefusedKeeps =
-    (s : List ℕ) (st : State) (packet buf : List ℕ) → (numberOf (packetStep s st packet buf) ≡ 0 → ⊥)
-    → Refusal s st buf (packetStep s st packet buf)
+RefusedKeeps = RefusedKeepsOf streamDevice
 
 -- "Given exactly when": every packet is given the one number that 01's table has for it.
 abbrev pub NumberExactly : Type 0
-NumberExactly = (s : List ℕ) (st : State) (packet buf : List ℕ) (n : ℕ) → (numberOf (packetStep s st packet buf) ≡ n) ↔ Due s st packet buf n
+NumberExactly = NumberExactlyOf streamDevice
+
+-- A packet begins exactly when its number is 0 and none of 01's endings before the work holds.
+abbrev pub BeginsExactly : Type 0
+BeginsExactly = BeginsExactlyOf streamDevice
 
 -- "For every read or write that begins, blocks moved plus residue equal blocks asked."
 abbrev pub MovedPlusResidue : Type 0
 MovedPlusResidue =
-    (s : List ℕ) (st : State) (packet buf : List ℕ) → Begins s st packet buf → Moves (requestOf packet .command)
-    → blocksOf (packetStep s st packet buf) + residueOf (stateOf (packetStep s st packet buf) .sense) ≡ requestOf packet .count
+    (s : List ℕ) (st : State) (packet buf : List ℕ) → BeginsWork s st packet buf → Moves (requestOf packet .command)
+    → blocksOf (packetStep s st packet buf) + residueOf (packetStep s st packet buf .state .sense) ≡ requestOf packet .count
 
 -- "Prove that any two outcomes allowed by it coincide": what the promises of `packet`, `fresh` and `changed` allow.
-abbrev pub Settled : Type 0
-Settled =
-    ((s : List ℕ) (st : State) (packet buf : List ℕ) (r r' : Outcome) (image image' buf' buf'' : List ℕ)
-    → done r image buf' ≡ packetStep s st packet buf → done r' image' buf'' ≡ packetStep s st packet buf
-    → (r ≡ r') × (image ≡ image') × (buf' ≡ buf''))
-    × ((r r' : State) → r ≡ freshState → r' ≡ freshState → r ≡ r')
-    × ((st r r' : State) → r ≡ changedState st → r' ≡ changedState st → r ≡ r')
+pub record Settled : Type 0 where
+  pub packet : (s : List ℕ) (st : State) (packet buf : List ℕ) (r r' : Outcome) (image image' buf' buf'' : List ℕ)
+      → PacketPromise s st packet buf r image buf' → PacketPromise s st packet buf r' image' buf''
+      → (r ≡ r') × (image ≡ image') × (buf' ≡ buf'')
+  pub fresh : (r r' : State) → FreshPromise r → FreshPromise r' → r ≡ r'
+  pub changed : (st r r' : State) → ChangedPromise st r → ChangedPromise st r' → r ≡ r'
 
 -- What an accepted packet leaves is again accepted: the image keeps the header rules, with the same header but U, and the record keeps rule 3 for it.
 abbrev pub StaysGood : Type 0
@@ -56,7 +54,7 @@ StaysGood =
     (s : List ℕ) (st : State) (packet buf : List ℕ) → numberOf (packetStep s st packet buf) ≡ 0
     → (keepsHeaderRules (packetStep s st packet buf .image) ≡ true)
     × (fieldsOf (packetStep s st packet buf .image) ≡ withRecorded (fieldsOf s) (fieldsOf (packetStep s st packet buf .image) .recorded))
-    × (keepsRecordRules (fieldsOf (packetStep s st packet buf .image)) (stateOf (packetStep s st packet buf)) ≡ true)
+    × (keepsRecordRules (fieldsOf (packetStep s st packet buf .image) .recorded) (packetStep s st packet buf .state) ≡ true)
 
 -- "bytes beyond the transfer stay", in the buffer and in the image.
 abbrev pub BeyondKept : Type 0
@@ -66,21 +64,23 @@ BeyondKept =
 
 -- "Kinds at U and above mean nothing.": images that are alike below U are answered alike, and stay alike.
 pub record BeyondIgnored : Type 0 where
-  pub outcome : (s t : List ℕ) (st : State) (packet buf : List ℕ) → AlikeBelowU s t → packetStep t st packet buf .out ≡ packetStep s st packet buf .out
+  pub answer : (s t : List ℕ) (st : State) (packet buf : List ℕ) → AlikeBelowU s t → packetStep t st packet buf .answer ≡ packetStep s st packet buf .answer
+  pub state : (s t : List ℕ) (st : State) (packet buf : List ℕ) → AlikeBelowU s t → packetStep t st packet buf .state ≡ packetStep s st packet buf .state
   pub given : (s t : List ℕ) (st : State) (packet buf : List ℕ) → AlikeBelowU s t → packetStep t st packet buf .buf ≡ packetStep s st packet buf .buf
-  pub left : (s t : List ℕ) (st : State) (packet buf : List ℕ) → AlikeBelowU s t → AlikeBelowU (packetStep s st packet buf .image) (packetStep t st packet buf .image)
+  pub left : (s t : List ℕ) (st : State) (packet buf : List ℕ) → AlikeBelowU s t
+      → AlikeBelowU (packetStep s st packet buf .image) (packetStep t st packet buf .image)
 
 -- "Data: copied, P + 1": each block that a READ moves is a data block of the image, and stands whole in the buffer.
 abbrev pub ReadGives : Type 0
 ReadGives =
-    (s : List ℕ) (st : State) (packet buf : List ℕ) → Begins s st packet buf → requestOf packet .command ≡ Read
+    (s : List ℕ) (st : State) (packet buf : List ℕ) → BeginsWork s st packet buf → requestOf packet .command ≡ Read
     → (k : ℕ) → k < blocksOf (packetStep s st packet buf)
     → IsRecorded s (st .position + k) (part (packetStep s st packet buf .buf) (k * fieldsOf s .size) (fieldsOf s .size))
 
 -- The same from the other side: a READ of one block or more that begins at a data block moves it.
 abbrev pub ReadMoves : Type 0
 ReadMoves =
-    (s : List ℕ) (st : State) (packet buf bytes : List ℕ) → Begins s st packet buf → requestOf packet .command ≡ Read
+    (s : List ℕ) (st : State) (packet buf bytes : List ℕ) → BeginsWork s st packet buf → requestOf packet .command ≡ Read
     → IsRecorded s (st .position) bytes → 1 ≤ requestOf packet .count
     → 1 ≤ blocksOf (packetStep s st packet buf)
 
@@ -88,12 +88,12 @@ ReadMoves =
 -- every later history, and every READ that moves it gives these bytes.
 abbrev pub ReadsBack : Type 0
 ReadsBack =
-    (s : List ℕ) (st : State) (packet buf : List ℕ) → Begins s st packet buf → requestOf packet .command ≡ Write
+    (s : List ℕ) (st : State) (packet buf : List ℕ) → BeginsWork s st packet buf → requestOf packet .command ≡ Write
     → (j : ℕ) → j < blocksOf (packetStep s st packet buf)
-    → (s' : List ℕ) (st' : State) → Later (st .position + j) (packetStep s st packet buf .image) (stateOf (packetStep s st packet buf)) s' st'
+    → (s' : List ℕ) (st' : State) → Later (st .position + j) (packetStep s st packet buf .image) (packetStep s st packet buf .state) s' st'
     → IsRecorded s' (st .position + j) (part buf (j * fieldsOf s .size) (fieldsOf s .size))
     × EveryReadGives s' st' (st .position + j) (part buf (j * fieldsOf s .size) (fieldsOf s .size))
 
 -- 01: "A small set is proved together as one table (*)"
 abbrev pub PlatesPrint : Type 0
-PlatesPrint = every plates ≡ true
+PlatesPrint = allAgree plates ≡ true

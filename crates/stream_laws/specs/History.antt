@@ -4,9 +4,10 @@ use Prim.Native.Nat.{ℕ, _≤_}
 use mathlib.Core.Bool.{true}
 use mathlib.Core.List.{List}
 use mathlib.Core.Path.{_≡_}
-use Rattle.stream_parts.specs.declared.state.State.{State}
+use Rattle.packet_parts.specs.declared.state.State.{State}
 use Rattle.stream.specs.Packet.{packetStep}
-use Rattle.stream_laws.specs.Words.{stores, blocksOf, stateOf}
+use Rattle.packet_laws.specs.Words.{blocksOf}
+use Rattle.stream_laws.specs.Words.{stores}
 
 -- this packet is a WRITE or WRITE FILEMARK that stores elements from a place at or below i on
 pub record StoresUpTo (i : ℕ) (s : List ℕ) (st : State) (packet buf : List ℕ) : Type 0 where
@@ -19,6 +20,6 @@ pub data Later (i : ℕ) (s : List ℕ) (st : State) : List ℕ → State → Ty
   at-once : Later i s st s st
   -- one more packet
   asked : {s' : List ℕ} {st' : State} (packet buf : List ℕ) → Later i s st s' st' → (StoresUpTo i s' st' packet buf → ⊥)
-      → Later i s st (packetStep s' st' packet buf .image) (stateOf (packetStep s' st' packet buf))
+      → Later i s st (packetStep s' st' packet buf .image) (packetStep s' st' packet buf .state)
   -- the record is replaced: by `changedState` where the cartridge is changed, by `freshState`, or by what packets to other cartridges left
   replaced : {s' : List ℕ} {st' : State} (st'' : State) → Later i s st s' st' → Later i s st s' st''

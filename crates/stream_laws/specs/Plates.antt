@@ -6,12 +6,12 @@ use mathlib.Core.List.{List, [], _∷_, _++_}
 use lib.ListN.{replicate}
 use Rattle.numbers.specs.Choice.{_≡ᵇ_}
 use Rattle.image.specs.Header.{fieldsOf}
-use Rattle.stream_parts.specs.declared.state.Attention.the-variants.{Nothing}
-use Rattle.stream_parts.specs.declared.state.State.{State}
-use Rattle.stream_parts.specs.Answers.{Step}
+use Rattle.packet_parts.specs.declared.state.Attention.the-variants.{Nothing}
+use Rattle.packet_parts.specs.declared.state.State.{State}
+use Rattle.packet_parts.specs.Answers.{Left}
 use Rattle.stream.specs.Packet.{packetStep}
-use Rattle.stream_parts.specs.Replies.{senseBytes}
-use Rattle.stream_parts.specs.Senses.{noSense}
+use Rattle.packet_parts.specs.Replies.{senseBytes}
+use Rattle.packet_parts.specs.Senses.{noSense}
 
 -- "Image C 4, B 512, W 0, kinds 1 2 1, U 3", here with any W
 abbrev pub image : ℕ → List ℕ
@@ -32,7 +32,11 @@ abbrev pub readTwo : List ℕ
 readTwo = sent 0x08 1 0 0 2 0 0
 
 abbrev pub afterReadTwo : State
-afterReadTwo = packetStep (image 0) (standing 0) readTwo (replicate 1024 9) .out .state
+afterReadTwo = packetStep (image 0) (standing 0) readTwo (replicate 1024 9) .state
+
+-- the 20 bytes of 03h by those that are not 0: byte 0, byte 2, information, ASC, ASCQ
+abbrev pub senseOf : ℕ → ℕ → ℕ → ℕ → ℕ → List ℕ
+senseOf first key information asc ascq = first ∷ 0 ∷ key ∷ 0 ∷ 0 ∷ 0 ∷ information ∷ 0x0c ∷ 0 ∷ 0 ∷ 0 ∷ 0 ∷ asc ∷ ascq ∷ replicate 6 0
 
 -- what is sent, and what must come: blocks, P, U and the bytes that 03h would give
 pub record Plate : Type 0 where
@@ -58,34 +62,34 @@ same (x ∷ xs) [] = false
 same (x ∷ xs) (y ∷ ys) = (x ≡ᵇ y) && same xs ys
 
 -- what came is what the plate says
-abbrev pub agrees : Plate → Step → Bool
+abbrev pub agrees : Plate → Left State → Bool
 agrees p x =
-    (x .out .answer .number ≡ᵇ 0) && (x .out .answer .blocks ≡ᵇ p .blocks) && (x .out .state .position ≡ᵇ p .place)
-    && (fieldsOf (x .image) .recorded ≡ᵇ p .recorded) && same (senseBytes (x .out .state .sense)) (p .sense)
+    (x .answer .number ≡ᵇ 0) && (x .answer .blocks ≡ᵇ p .blocks) && (x .state .position ≡ᵇ p .place)
+    && (fieldsOf (x .image) .recorded ≡ᵇ p .recorded) && same (senseBytes (x .state .sense)) (p .sense)
 
 -- each plate of the table, with a buffer of two blocks
-abbrev pub every : List Plate → Bool
-every [] = true
-every (p ∷ ps) = agrees p (packetStep (image (p .warning)) (p .before) (p .packet) (replicate 1024 9)) && every ps
+abbrev pub allAgree : List Plate → Bool
+allAgree [] = true
+allAgree (p ∷ ps) = agrees p (packetStep (image (p .warning)) (p .before) (p .packet) (replicate 1024 9)) && allAgree ps
 
 abbrev pub plates : List Plate
 plates =
     -- "READ 2 at 0: one block, P 2; sense F0 00 80 00 00 00 01 0C, four 00, 00 01, six 00"
     W 0 from (standing 0) send readTwo blocks 1 P 2 U 3 sense (0xf0 ∷ 0 ∷ 0x80 ∷ 0 ∷ 0 ∷ 0 ∷ 1 ∷ 0x0c ∷ 0 ∷ 0 ∷ 0 ∷ 0 ∷ 0 ∷ 1 ∷ 0 ∷ 0 ∷ 0 ∷ 0 ∷ 0 ∷ 0 ∷ [])
     -- "Then READ 2: one block, residue 1, P 3, 8/00/05"
-    ∷ W 0 from afterReadTwo send readTwo blocks 1 P 3 U 3 sense (0xf0 ∷ 0 ∷ 0x08 ∷ 0 ∷ 0 ∷ 0 ∷ 1 ∷ 0x0c ∷ 0 ∷ 0 ∷ 0 ∷ 0 ∷ 0 ∷ 5 ∷ 0 ∷ 0 ∷ 0 ∷ 0 ∷ 0 ∷ 0 ∷ [])
+    ∷ W 0 from afterReadTwo send readTwo blocks 1 P 3 U 3 sense (senseOf 0xf0 0x08 1 0 5)
     -- "WRITE 2 at 3: one stored, P 4, byte 2 of sense 4Dh, residue 1"
-    ∷ W 0 from (standing 3) send (sent 0x0a 1 0 0 2 0 0) blocks 1 P 4 U 4 sense (0xf0 ∷ 0 ∷ 0x4d ∷ 0 ∷ 0 ∷ 0 ∷ 1 ∷ 0x0c ∷ 0 ∷ 0 ∷ 0 ∷ 0 ∷ 0 ∷ 2 ∷ 0 ∷ 0 ∷ 0 ∷ 0 ∷ 0 ∷ 0 ∷ [])
+    ∷ W 0 from (standing 3) send (sent 0x0a 1 0 0 2 0 0) blocks 1 P 4 U 4 sense (senseOf 0xf0 0x4d 1 0 2)
     -- "WRITE 1 at 3 with W 1: stored, byte 2 40h, residue 0"
-    ∷ W 1 from (standing 3) send (sent 0x0a 1 0 0 1 0 0) blocks 1 P 4 U 4 sense (0xf0 ∷ 0 ∷ 0x40 ∷ 0 ∷ 0 ∷ 0 ∷ 0 ∷ 0x0c ∷ 0 ∷ 0 ∷ 0 ∷ 0 ∷ 0 ∷ 2 ∷ 0 ∷ 0 ∷ 0 ∷ 0 ∷ 0 ∷ 0 ∷ [])
+    ∷ W 1 from (standing 3) send (sent 0x0a 1 0 0 1 0 0) blocks 1 P 4 U 4 sense (senseOf 0xf0 0x40 0 0 2)
     -- "WRITE 1 at 0: U 1"
-    ∷ W 0 from (standing 0) send (sent 0x0a 1 0 0 1 0 0) blocks 1 P 1 U 1 sense (0x70 ∷ 0 ∷ 0 ∷ 0 ∷ 0 ∷ 0 ∷ 0 ∷ 0x0c ∷ 0 ∷ 0 ∷ 0 ∷ 0 ∷ 0 ∷ 0 ∷ 0 ∷ 0 ∷ 0 ∷ 0 ∷ 0 ∷ 0 ∷ [])
+    ∷ W 0 from (standing 0) send (sent 0x0a 1 0 0 1 0 0) blocks 1 P 1 U 1 sense (senseOf 0x70 0 0 0 0)
     -- "SPACE -1 filemark at 3: P 1"
-    ∷ W 0 from (standing 3) send (sent 0x11 1 0xff 0xff 0xff 0 0) blocks 0 P 1 U 3 sense (0x70 ∷ 0 ∷ 0 ∷ 0 ∷ 0 ∷ 0 ∷ 0 ∷ 0x0c ∷ 0 ∷ 0 ∷ 0 ∷ 0 ∷ 0 ∷ 0 ∷ 0 ∷ 0 ∷ 0 ∷ 0 ∷ 0 ∷ 0 ∷ [])
+    ∷ W 0 from (standing 3) send (sent 0x11 1 0xff 0xff 0xff 0 0) blocks 0 P 1 U 3 sense (senseOf 0x70 0 0 0 0)
     -- "SPACE 1 block at 1: P 2, residue 1"
-    ∷ W 0 from (standing 1) send (sent 0x11 0 0 0 1 0 0) blocks 0 P 2 U 3 sense (0xf0 ∷ 0 ∷ 0x80 ∷ 0 ∷ 0 ∷ 0 ∷ 1 ∷ 0x0c ∷ 0 ∷ 0 ∷ 0 ∷ 0 ∷ 0 ∷ 1 ∷ 0 ∷ 0 ∷ 0 ∷ 0 ∷ 0 ∷ 0 ∷ [])
+    ∷ W 0 from (standing 1) send (sent 0x11 0 0 0 1 0 0) blocks 0 P 2 U 3 sense (senseOf 0xf0 0x80 1 0 1)
     -- "LOCATE 4: P 3, key 8"
-    ∷ W 0 from (standing 0) send (sent 0x2b 0 0 0 0 0 4) blocks 0 P 3 U 3 sense (0x70 ∷ 0 ∷ 0x08 ∷ 0 ∷ 0 ∷ 0 ∷ 0 ∷ 0x0c ∷ 0 ∷ 0 ∷ 0 ∷ 0 ∷ 0 ∷ 5 ∷ 0 ∷ 0 ∷ 0 ∷ 0 ∷ 0 ∷ 0 ∷ [])
+    ∷ W 0 from (standing 0) send (sent 0x2b 0 0 0 0 0 4) blocks 0 P 3 U 3 sense (senseOf 0x70 0x08 0 0 5)
     -- "Load byte 05h: 24/00"
-    ∷ W 0 from (standing 0) send (sent 0x1b 0 0 0 5 0 0) blocks 0 P 0 U 3 sense (0x70 ∷ 0 ∷ 0x05 ∷ 0 ∷ 0 ∷ 0 ∷ 0 ∷ 0x0c ∷ 0 ∷ 0 ∷ 0 ∷ 0 ∷ 0x24 ∷ 0 ∷ 0 ∷ 0 ∷ 0 ∷ 0 ∷ 0 ∷ 0 ∷ [])
+    ∷ W 0 from (standing 0) send (sent 0x1b 0 0 0 5 0 0) blocks 0 P 0 U 3 sense (senseOf 0x70 0x05 0 0x24 0)
     ∷ []

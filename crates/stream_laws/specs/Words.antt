@@ -1,90 +1,28 @@
 -- The words in which the demands are stated.
 -- Assumes nothing.
 use Prim.Native.Nat.{ℕ, _+_, _*_, _≤_, _<_}
-use mathlib.Core.Bool.{Bool, true, false, not, _&&_, _||_}
+use mathlib.Core.Bool.{Bool, true, false}
 use mathlib.Core.List.{List}
 use mathlib.Core.Path.{_≡_}
 use lib.ListN.{length, getD}
-use Rattle.numbers.specs.Choice.{if_then_else_}
 use Rattle.numbers.specs.Over.{part}
 use Rattle.image.specs.declared.header.Header.{Header}
 use Rattle.image.specs.Elements.{recordedField}
-use Rattle.image.specs.Header.{fieldsOf, keepsHeaderRules, brokenImage}
+use Rattle.image.specs.Header.{fieldsOf}
 use Rattle.image.specs.Sameness.{IsBlock, SameElement, Alike, Outside}
 use Rattle.opcodes.specs.declared.Command.{Command}
 use Rattle.opcodes.specs.declared.Command.the-variants.{Unknown, TestUnitReady, Rewind, RequestSense, Read, Write, WriteFilemarks, Space, Inquiry, ModeSelect, ModeSense, LoadUnload, Locate, ReadPosition}
-use Rattle.stream_parts.specs.declared.requests.Request.{Request}
-use Rattle.stream_parts.specs.declared.state.Sense.{Sense}
-use Rattle.stream_parts.specs.declared.state.State.{State}
-use Rattle.stream_parts.specs.declared.state.Verdict.the-variants.{Works}
-use Rattle.stream_parts.specs.Answers.{Step, notTwelveBytes, brokenRecord, shortBuffer}
-use Rattle.stream_parts.specs.Checks.{askedBy, isHeld, verdictOf}
-use Rattle.stream.specs.Packet.{packetLength, packetStep}
-use Rattle.stream_parts.specs.Replies.{isProtected}
+use Rattle.packet_parts.specs.declared.state.State.{State}
+use Rattle.packet_parts.specs.Answers.{Left}
+use Rattle.packet_laws.specs.Words.{blocksOf, bytesOf, Begins}
 use Rattle.stream_parts.specs.Requests.{requestOf}
-use Rattle.stream_parts.specs.States.{keepsRecordRules}
-
--- ---- an answer's parts
-
-abbrev pub numberOf : Step → ℕ
-numberOf x = x .out .answer .number
-
-abbrev pub statusOf : Step → ℕ
-statusOf x = x .out .answer .status
-
-abbrev pub blocksOf : Step → ℕ
-blocksOf x = x .out .answer .blocks
-
-abbrev pub bytesOf : Step → ℕ
-bytesOf x = x .out .answer .bytes
-
-abbrev pub stateOf : Step → State
-stateOf x = x .out .state
-
--- the information where the sense is valid, else 0
-abbrev pub residueOf : Sense → ℕ
-residueOf x = if x .valid then x .information else 0
-
--- ---- refusals
-
--- 01: "A refusal returns its number, status 0, 0 blocks and bytes .., and alters nothing"
-pub record Refusal (s : List ℕ) (st : State) (buf : List ℕ) (x : Step) : Type 0 where
-  pub status-zero : statusOf x ≡ 0
-  pub no-blocks : blocksOf x ≡ 0
-  pub no-bytes : bytesOf x ≡ 0
-  pub state-kept : stateOf x ≡ st
-  pub image-kept : x .image ≡ s
-  pub buf-kept : x .buf ≡ buf
-
--- 01: "attention, opcode, fields, not ready, protection": one of these ends the packet before refusal 4 is looked at
-unfoldable pub endsEarly : Header → State → Request → Bool
-endsEarly h st q =
-    isHeld (st .attention) (askedBy (q .command) h q .exempt)
-    || not (askedBy (q .command) h q .known)
-    || askedBy (q .command) h q .field
-    || askedBy (q .command) h q .length
-    || (askedBy (q .command) h q .mounted && not (st .loaded))
-    || (askedBy (q .command) h q .stores && isProtected h)
-
--- 01's table of refusal numbers, each with no earlier one holding; 0 where none is given
-pub data Due (s : List ℕ) (st : State) (packet buf : List ℕ) : ℕ → Type 0 where
-  not-twelve : (length packet ≡ packetLength → ⊥) → Due s st packet buf notTwelveBytes
-  bad-image : length packet ≡ packetLength → keepsHeaderRules s ≡ false → Due s st packet buf brokenImage
-  bad-record : length packet ≡ packetLength → keepsHeaderRules s ≡ true → keepsRecordRules (fieldsOf s) st ≡ false → Due s st packet buf brokenRecord
-  too-short : length packet ≡ packetLength → keepsHeaderRules s ≡ true → keepsRecordRules (fieldsOf s) st ≡ true
-      → endsEarly (fieldsOf s) st (requestOf packet) ≡ false
-      → length buf < askedBy (requestOf packet .command) (fieldsOf s) (requestOf packet) .needed
-      → Due s st packet buf shortBuffer
-  accepted : length packet ≡ packetLength → keepsHeaderRules s ≡ true → keepsRecordRules (fieldsOf s) st ≡ true
-      → (endsEarly (fieldsOf s) st (requestOf packet) ≡ false → askedBy (requestOf packet .command) (fieldsOf s) (requestOf packet) .needed ≤ length buf)
-      → Due s st packet buf 0
+use Rattle.stream.specs.Packet.{streamDevice, packetStep}
 
 -- ---- the work
 
 -- the packet is not refused, and nothing ends it before the work
-pub record Begins (s : List ℕ) (st : State) (packet buf : List ℕ) : Type 0 where
-  pub not-refused : numberOf (packetStep s st packet buf) ≡ 0
-  pub works : verdictOf (fieldsOf s) st (requestOf packet) (length buf) ≡ Works
+abbrev pub BeginsWork : List ℕ → State → List ℕ → List ℕ → Type 0
+BeginsWork s st packet buf = Begins streamDevice s st packet buf
 
 -- the commands that move blocks
 pub data Moves : Command → Type 0 where
@@ -142,18 +80,18 @@ AlikeBelowU s t = Alike (fieldsOf s .recorded) s t
 -- a READ that moves element i, as its block k, gives these bytes
 abbrev pub EveryReadGives : List ℕ → State → ℕ → List ℕ → Type 0
 EveryReadGives s st i bytes =
-    (packet buf : List ℕ) → Begins s st packet buf → requestOf packet .command ≡ Read
+    (packet buf : List ℕ) → BeginsWork s st packet buf → requestOf packet .command ≡ Read
     → (k : ℕ) → k < blocksOf (packetStep s st packet buf) → st .position + k ≡ i
     → part (packetStep s st packet buf .buf) (k * fieldsOf s .size) (fieldsOf s .size) ≡ bytes
 
 -- byte m is none of U's four, none of the kinds of the elements moved, none of the block bytes taken
-pub record Untouched (h : Header) (st : State) (x : Step) (m : ℕ) : Type 0 where
+pub record Untouched (h : Header) (st : State) (x : Left State) (m : ℕ) : Type 0 where
   pub not-recorded : Outside recordedField 4 m
   pub not-kind : Outside (h .kinds + st .position) (blocksOf x) m
   pub not-block : Outside (h .blocks + st .position * h .size) (bytesOf x) m
 
 -- what a packet changes, at most
-pub record Kept (s : List ℕ) (st : State) (packet buf : List ℕ) (x : Step) : Type 0 where
+pub record Kept (s : List ℕ) (st : State) (packet buf : List ℕ) (x : Left State) : Type 0 where
   -- the buffer keeps its length and every byte beyond those filled, and all of them where the command gives none
   pub buf-length : length (x .buf) ≡ length buf
   pub buf-beyond : (i : ℕ) → bytesOf x ≤ i → getD (x .buf) i 0 ≡ getD buf i 0
@@ -163,6 +101,6 @@ pub record Kept (s : List ℕ) (st : State) (packet buf : List ℕ) (x : Step) :
   pub image-beyond : (m : ℕ) → Untouched (fieldsOf s) st x m → getD (x .image) m 0 ≡ getD s m 0
   pub image-kept : stores packet ≡ false → x .image ≡ s
   -- "U = new P" where elements were stored
-  pub recorded-new : stores packet ≡ true → 1 ≤ blocksOf x → fieldsOf (x .image) .recorded ≡ stateOf x .position
+  pub recorded-new : stores packet ≡ true → 1 ≤ blocksOf x → fieldsOf (x .image) .recorded ≡ x .state .position
   -- the elements before the position are as they were
   pub elements-before : (i : ℕ) → i < st .position → SameElement (fieldsOf s) s (x .image) i

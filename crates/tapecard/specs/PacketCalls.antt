@@ -4,8 +4,9 @@ use Prim.Native.Nat.{ℕ}
 use mathlib.Core.List.{List}
 use mathlib.Core.Path.{_≡_}
 use Rattle.numbers.specs.Choice.{if_then_else_, _≡ᵇ_}
-use Rattle.stream_parts.specs.Answers.{Step}
-use Rattle.stream_parts.specs.States.{freshState, changedState}
+use Rattle.packet_parts.specs.declared.state.State.{State}
+use Rattle.packet_parts.specs.Answers.{Left}
+use Rattle.packet_parts.specs.States.{freshState, changedState}
 use Rattle.stream.specs.Packet.{packetStep}
 use Rattle.packet_record.specs.PacketRecord.{decodeState, encodeState, encodeAnswer}
 
@@ -27,13 +28,13 @@ unfoldable pub packetChange : List ℕ → List ℕ
 packetChange state = encodeState (changedState (decodeState state))
 
 -- "A refused call (number not 0) leaves the record's bytes .. exactly as they were"; "An accepted call writes the whole record in its canonical form."
-unfoldable pub packetLeft : List ℕ → Step → PacketCard
+unfoldable pub packetLeft : List ℕ → Left State → PacketCard
 packetLeft state x =
     packetCard
-    (if x .out .answer .number ≡ᵇ 0 then encodeState (x .out .state) else state)
+    (if x .answer .number ≡ᵇ 0 then encodeState (x .state) else state)
     (x .image)
     (x .buf)
-    (encodeAnswer (x .out .answer))
+    (encodeAnswer (x .answer))
 
 -- all that `tapecard_packet` leaves: record, image, buffer, answer
 unfoldable pub packetCall : List ℕ → List ℕ → List ℕ → List ℕ → PacketCard

@@ -59,7 +59,26 @@ returns-13 c = simp (c .match .keys13)
 
 returns-14 : tie.Need-returns-14
 unfolding commandOfClass
-returns-14 c = simp (ne-eqb _ _ (c .match .rest .1), ne-eqb _ _ (c .match .rest .0 .1), ne-eqb _ _ (c .match .rest .0 .0 .1), ne-eqb _ _ (c .match .rest .0 .0 .0 .1), ne-eqb _ _ (c .match .rest .0 .0 .0 .0 .1), ne-eqb _ _ (c .match .rest .0 .0 .0 .0 .0 .1), ne-eqb _ _ (c .match .rest .0 .0 .0 .0 .0 .0 .1), ne-eqb _ _ (c .match .rest .0 .0 .0 .0 .0 .0 .0 .1), ne-eqb _ _ (c .match .rest .0 .0 .0 .0 .0 .0 .0 .0 .1), ne-eqb _ _ (c .match .rest .0 .0 .0 .0 .0 .0 .0 .0 .0 .1), ne-eqb _ _ (c .match .rest .0 .0 .0 .0 .0 .0 .0 .0 .0 .0 .1), ne-eqb _ _ (c .match .rest .0 .0 .0 .0 .0 .0 .0 .0 .0 .0 .0 .1), ne-eqb _ _ (c .match .rest .0 .0 .0 .0 .0 .0 .0 .0 .0 .0 .0 .0 .1))
+returns-14 c =
+    let r = c .match .rest in
+    let s = r .0 .0 .0 .0 in
+    let t = s .0 .0 .0 .0 in
+    let u = t .0 .0 .0 .0 in
+    simp (
+      ne-eqb _ _ (r .1),
+      ne-eqb _ _ (r .0 .1),
+      ne-eqb _ _ (r .0 .0 .1),
+      ne-eqb _ _ (r .0 .0 .0 .1),
+      ne-eqb _ _ (s .1),
+      ne-eqb _ _ (s .0 .1),
+      ne-eqb _ _ (s .0 .0 .1),
+      ne-eqb _ _ (s .0 .0 .0 .1),
+      ne-eqb _ _ (t .1),
+      ne-eqb _ _ (t .0 .1),
+      ne-eqb _ _ (t .0 .0 .1),
+      ne-eqb _ _ (t .0 .0 .0 .1),
+      ne-eqb _ _ (u .1),
+    )
 
 pub command-of-class-spec : {M : Type 1} → statement M
 command-of-class-spec =

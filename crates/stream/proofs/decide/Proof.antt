@@ -2,7 +2,8 @@
 -- Assumes nothing.
 use native.Mathlib.Omega.{arith}
 use Rattle.image.proofs.HeaderLaws.{sound}
-use Rattle.stream.proofs.PacketLaws.{works-room, was-refused, ended-before, worked}
+use Rattle.stream.proofs.PacketLaws.{was-refused, ended-before, worked}
+use Rattle.packet_parts.proofs.VerdictLaws.{works-clear}
 use borrow.Author.Needs.{needs}
 use Rattle.stream.proofs.decide.Statement.{statement}
 use Rattle.stream.proofs.decide.Tie as tie
@@ -26,7 +27,9 @@ enum-told : tie.Need-enum-told
 enum-told c = search needs
 
 work-requires : tie.Need-work-requires
-work-requires c κs = (c .before .before .before .before .before .before .before .pre .0, (c .before .before .before .before .before .before .before .pre .1, works-room (c .before .before .before .before .before .before .before .args .h) (c .before .before .before .before .before .before .before .args .state) (c .before .before .before .before .before .before .before .args .q) _ _ (c .before .before .before .before .verdict .ensures) (c .before .before .enum-told .given .1)))
+work-requires c κs =
+    let start = c .before .before .before .before .before .before .before in
+    (start .pre .0, (start .pre .1, works-clear _ _ _ _ _ (c .before .before .before .before .verdict .ensures) (c .before .before .enum-told .given .1) .1))
 
 returns : tie.Need-returns
 returns c = search was-refused

@@ -17,6 +17,9 @@ is-speed-requires c κs = search needs
 shared-slice-read-result : tie.Need-shared-slice-read-result
 shared-slice-read-result c = search needs
 
+add-result : tie.Need-add-result
+add-result c = search needs
+
 shared-slice-read-result-2 : tie.Need-shared-slice-read-result-2
 shared-slice-read-result-2 c = search needs
 
@@ -32,5 +35,6 @@ is-good-list-spec =
     cast-is-speed
     is-speed-requires
     shared-slice-read-result
+    add-result
     shared-slice-read-result-2
     returns)

@@ -8,12 +8,15 @@ use Rattle.stream.proofs.work.load_unload.Tie as tie
 stand-at-requires : tie.Need-stand-at-requires
 stand-at-requires c κs = search needs
 
+with-loaded-requires : tie.Need-with-loaded-requires
+with-loaded-requires c κs = search needs
+
 end-requires : tie.Need-end-requires
 end-requires c κs = search needs
 
 returns : tie.Need-returns
 unfolding loadWork
-returns c = simp (c .end .ensures, c .before .stand-at .ensures)
+returns c = simp (c .end .ensures, c .before .with-loaded .ensures, c .before .before .stand-at .ensures)
 
 pub load-unload-spec : {M : Type 1} → statement M
-load-unload-spec = tie.close (tie.spec stand-at-requires end-requires returns)
+load-unload-spec = tie.close (tie.spec stand-at-requires with-loaded-requires end-requires returns)

@@ -8,20 +8,38 @@ use Rattle.stream.proofs.work.mode_select.Statement.{statement}
 use Rattle.stream.proofs.work.mode_select.Tie as tie
 
 is-good-list-requires : tie.Need-is-good-list-requires
-is-good-list-requires c κs = let e = eqb-true (c .before .before .args .asked) 32 (c .if1 .taken) in omega (arith, c .before .before .pre)
+is-good-list-requires c κs =
+    let start = c .before .before in
+    let e = eqb-true (start .args .asked) 32 (c .if1 .taken) in
+    omega (arith, start .pre)
 
 count2-requires : tie.Need-count2-requires
-count2-requires c κs = let e = eqb-true (c .before .before .before .before .args .asked) 32 (c .before .before .if1 .taken) in omega (arith, c .before .before .before .before .pre)
+count2-requires c κs =
+    let start = c .before .before .before .before in
+    let e = eqb-true (start .args .asked) 32 (c .before .before .if1 .taken) in
+    omega (arith, start .pre)
 
 cast-speed : tie.Need-cast-speed
 cast-speed c = search needs
+
+with-speed-requires : tie.Need-with-speed-requires
+with-speed-requires c κs = tt
 
 end-requires : tie.Need-end-requires
 end-requires c κs = search needs
 
 returns : tie.Need-returns
 unfolding selectWork
-returns c = simp (c .end .ensures, c .before .before .if2 .taken, ← c .before .before .before .is-good-list .ensures, c .before .before .before .before .if1 .taken, c .before .count2 .ensures .0)
+returns c =
+    let g = c .before .before .before .before in
+    simp (
+      c .end .ensures,
+      c .before .with-speed .ensures,
+      c .before .before .before .if2 .taken,
+      ← g .is-good-list .ensures,
+      g .before .if1 .taken,
+      c .before .before .count2 .ensures .0,
+    )
 
 wrong-list-requires : tie.Need-wrong-list-requires
 wrong-list-requires c κs = search needs
@@ -31,7 +49,9 @@ end-requires-2 c κs = search needs
 
 returns-2 : tie.Need-returns-2
 unfolding selectWork
-returns-2 c = simp (c .end2 .ensures, c .before .wrong-list .ensures, c .before .before .if2 .left, ← c .before .before .before .is-good-list .ensures, c .before .before .before .before .if1 .taken)
+returns-2 c =
+    let g = c .before .before .before in
+    simp (c .end2 .ensures, c .before .wrong-list .ensures, c .before .before .if2 .left, ← g .is-good-list .ensures, g .before .if1 .taken)
 
 end-requires-3 : tie.Need-end-requires-3
 end-requires-3 c κs = search needs
@@ -47,6 +67,7 @@ mode-select-spec =
     is-good-list-requires
     count2-requires
     cast-speed
+    with-speed-requires
     end-requires
     returns
     wrong-list-requires

@@ -2,7 +2,8 @@
 -- Assumes nothing.
 use native.Mathlib.Omega.{arith}
 use mathlib.Core.Path.{_∙_}
-use Rattle.stream.proofs.WorkLaws.{replied-as, with-page, without-page}
+use Rattle.packet_parts.proofs.ReplyLaws.{replied-as}
+use Rattle.stream.proofs.WorkLaws.{with-page, without-page}
 use borrow.Author.Needs.{needs}
 use Rattle.stream.proofs.work.mode_sense.Statement.{statement}
 use Rattle.stream.proofs.work.mode_sense.Tie as tie

@@ -38,21 +38,27 @@ enum-told-4 c = search needs
 
 request-sense-requires : tie.Need-request-sense-requires
 unfolding askedBy
-request-sense-requires c κs = (c .before .before .before .before .before .before .before .before .pre .0 .1 .1, needed-as _ RequestSense _ _ _ (c .before .enum-told4 .given .1) (c .before .before .before .before .before .before .before .before .pre .1 .1))
+request-sense-requires c κs =
+    let start = c .before .before .before .before .before .before in
+    (start .pre .0 .1 .1, needed-as _ RequestSense _ _ _ (c .before .enum-told4 .given .1) (start .pre .1 .1))
 
 enum-told-5 : tie.Need-enum-told-5
 enum-told-5 c = search needs
 
 read-requires : tie.Need-read-requires
 unfolding askedBy
-read-requires c κs = (c .before .before .before .before .before .before .before .before .before .pre .0 .0, (c .before .before .before .before .before .before .before .before .before .pre .0 .1 .0, (c .before .before .before .before .before .before .before .before .before .pre .1 .0, needed-as _ Read _ _ _ (c .before .before .enum-told5 .given .1) (c .before .before .before .before .before .before .before .before .before .pre .1 .1))))
+read-requires c κs =
+    let start = c .before .before .before .before .before .before .before in
+    (start .pre .0 .0, (start .pre .0 .1 .0, (start .pre .1 .0, needed-as _ Read _ _ _ (c .before .before .enum-told5 .given .1) (start .pre .1 .1))))
 
 enum-told-6 : tie.Need-enum-told-6
 enum-told-6 c = search needs
 
 write-requires : tie.Need-write-requires
 unfolding askedBy
-write-requires c κs = (c .before .before .before .before .before .before .before .before .before .pre .0 .0, (c .before .before .before .before .before .before .before .before .before .pre .0 .1 .0, (c .before .before .before .before .before .before .before .before .before .pre .1 .0, needed-as _ Write _ _ _ (c .before .before .enum-told6 .given .1) (c .before .before .before .before .before .before .before .before .before .pre .1 .1))))
+write-requires c κs =
+    let start = c .before .before .before .before .before .before .before in
+    (start .pre .0 .0, (start .pre .0 .1 .0, (start .pre .1 .0, needed-as _ Write _ _ _ (c .before .before .enum-told6 .given .1) (start .pre .1 .1))))
 
 enum-told-7 : tie.Need-enum-told-7
 enum-told-7 c = search needs
@@ -71,24 +77,33 @@ enum-told-9 c = search needs
 
 inquiry-requires : tie.Need-inquiry-requires
 unfolding askedBy
-inquiry-requires c κs = needed-as _ Inquiry _ _ _ (c .before .enum-told9 .given .1) (c .before .before .before .before .before .before .before .before .pre .1 .1)
+inquiry-requires c κs =
+    let start = c .before .before .before .before .before .before in
+    needed-as _ Inquiry _ _ _ (c .before .enum-told9 .given .1) (start .pre .1 .1)
 
 enum-told-10 : tie.Need-enum-told-10
 enum-told-10 c = search needs
 
 mode-select-requires : tie.Need-mode-select-requires
 unfolding askedBy
-mode-select-requires c κs = needed-as _ ModeSelect _ _ _ (c .before .enum-told10 .given .1) (c .before .before .before .before .before .before .before .before .pre .1 .1)
+mode-select-requires c κs =
+    let start = c .before .before .before .before .before .before in
+    needed-as _ ModeSelect _ _ _ (c .before .enum-told10 .given .1) (start .pre .1 .1)
 
 enum-told-11 : tie.Need-enum-told-11
 enum-told-11 c = search needs
 
 mode-sense-requires : tie.Need-mode-sense-requires
 unfolding askedBy
-mode-sense-requires c κs = needed-as _ ModeSense _ _ _ (c .before .enum-told11 .given .1) (c .before .before .before .before .before .before .before .before .pre .1 .1)
+mode-sense-requires c κs =
+    let start = c .before .before .before .before .before .before in
+    needed-as _ ModeSense _ _ _ (c .before .enum-told11 .given .1) (start .pre .1 .1)
 
 enum-told-12 : tie.Need-enum-told-12
 enum-told-12 c = search needs
+
+is-set-requires : tie.Need-is-set-requires
+is-set-requires c κs = search needs
 
 load-unload-requires : tie.Need-load-unload-requires
 load-unload-requires c κs = search needs
@@ -104,7 +119,10 @@ enum-told-14 c = search needs
 
 read-position-requires : tie.Need-read-position-requires
 unfolding askedBy
-read-position-requires c κs = let g = sound _ _ (c .before .before .before .before .before .before .before .before .pre .0 .0) in (omega arith, needed-as _ ReadPosition _ _ _ (c .before .enum-told14 .given .1) (c .before .before .before .before .before .before .before .before .pre .1 .1))
+read-position-requires c κs =
+    let start = c .before .before .before .before .before .before in
+    let g = sound _ _ (start .pre .0 .0) in
+    (omega arith, needed-as _ ReadPosition _ _ _ (c .before .enum-told14 .given .1) (start .pre .1 .1))
 
 returns : tie.Need-returns
 returns c = search was-unknown
@@ -213,6 +231,7 @@ work-spec =
     enum-told-11
     mode-sense-requires
     enum-told-12
+    is-set-requires
     load-unload-requires
     enum-told-13
     locate-requires

@@ -1,6 +1,5 @@
 -- `checks::verdict` meets its contract.
 -- Assumes nothing.
-use Rattle.stream_parts.specs.Checks.{verdictOf}
 use borrow.Author.Needs.{needs}
 use Rattle.stream_parts.proofs.checks.verdict.Statement.{statement}
 use Rattle.stream_parts.proofs.checks.verdict.Tie as tie
@@ -12,7 +11,6 @@ verdict-by-requires : tie.Need-verdict-by-requires
 verdict-by-requires c κs = search needs
 
 returns : tie.Need-returns
-unfolding verdictOf
 returns c = simp (c .verdict-by .ensures, c .before .before .asked-by .ensures)
 
 pub verdict-spec : {M : Type 1} → statement M

@@ -4,20 +4,54 @@ use borrow.Author.Needs.{needs}
 use Rattle.stream_parts.proofs.replies.mode_whole.Statement.{statement}
 use Rattle.stream_parts.proofs.replies.mode_whole.Tie as tie
 
-bit-of-requires : tie.Need-bit-of-requires
-bit-of-requires c κs = search needs
+mode-header-requires : tie.Need-mode-header-requires
+mode-header-requires c κs = search needs
 
-bit-of-requires-2 : tie.Need-bit-of-requires-2
-bit-of-requires-2 c κs = search needs
+device-page-requires : tie.Need-device-page-requires
+device-page-requires c κs = search needs
 
-cast-t9 : tie.Need-cast-t9
-cast-t9 c = search needs
+slice-aggregate-copy-block : tie.Need-slice-aggregate-copy-block
+slice-aggregate-copy-block c = search needs
 
-cast-t11 : tie.Need-cast-t11
-cast-t11 c = search needs
+slice-aggregate-copy-block-2 : tie.Need-slice-aggregate-copy-block-2
+slice-aggregate-copy-block-2 c = search needs
+
+copy-block-requires : tie.Need-copy-block-requires
+copy-block-requires c κs = search needs
+
+sub-copy-block : tie.Need-sub-copy-block
+sub-copy-block c = search needs
+
+part-bytes-start : tie.Need-part-bytes-start
+part-bytes-start c = search needs
+
+part-bytes-end : tie.Need-part-bytes-end
+part-bytes-end c = search needs
+
+slice-aggregate-copy-block-3 : tie.Need-slice-aggregate-copy-block-3
+slice-aggregate-copy-block-3 c = search needs
+
+copy-block-requires-2 : tie.Need-copy-block-requires-2
+copy-block-requires-2 c κs = search needs
 
 returns : tie.Need-returns
-returns c = cc
+returns c =
+    let b = c .before .before .before .before .before in
+    let m = b .before .before .before in
+    simp (c .before .copy-block2 .ensures, b .copy-block .ensures, m .device-page .ensures, m .before .mode-header .ensures)
 
 pub mode-whole-spec : {M : Type 1} → statement M
-mode-whole-spec = tie.close (tie.spec bit-of-requires bit-of-requires-2 cast-t9 cast-t11 returns)
+mode-whole-spec =
+    tie.close
+    (tie.spec
+    mode-header-requires
+    device-page-requires
+    slice-aggregate-copy-block
+    slice-aggregate-copy-block-2
+    copy-block-requires
+    sub-copy-block
+    part-bytes-start
+    part-bytes-end
+    slice-aggregate-copy-block-3
+    copy-block-requires-2
+    returns)

@@ -4,59 +4,50 @@ use borrow.Author.Needs.{needs}
 use Rattle.stream_parts.proofs.replies.position_bytes.Statement.{statement}
 use Rattle.stream_parts.proofs.replies.position_bytes.Tie as tie
 
-bit-of-requires : tie.Need-bit-of-requires
-bit-of-requires c κs = search needs
+weight-of-requires : tie.Need-weight-of-requires
+weight-of-requires c κs = search needs
 
-sub-bit-of : tie.Need-sub-bit-of
-sub-bit-of c = search needs
+sub-weight-of : tie.Need-sub-weight-of
+sub-weight-of c = search needs
 
-bit-of-requires-2 : tie.Need-bit-of-requires-2
-bit-of-requires-2 c κs = search needs
+weight-of-requires-2 : tie.Need-weight-of-requires-2
+weight-of-requires-2 c κs = search needs
 
 add-first : tie.Need-add-first
 add-first c = search needs
 
-cast-t8 : tie.Need-cast-t8
-cast-t8 c = search needs
+array-write-bytes : tie.Need-array-write-bytes
+array-write-bytes c = search needs
 
-cast-t10 : tie.Need-cast-t10
-cast-t10 c = search needs
+slice-aggregate-put-count4 : tie.Need-slice-aggregate-put-count4
+slice-aggregate-put-count4 c = search needs
 
-cast-t15 : tie.Need-cast-t15
-cast-t15 c = search needs
+put-count4-requires : tie.Need-put-count4-requires
+put-count4-requires c κs = search needs
 
-cast-t17 : tie.Need-cast-t17
-cast-t17 c = search needs
+slice-aggregate-put-count4-2 : tie.Need-slice-aggregate-put-count4-2
+slice-aggregate-put-count4-2 c = search needs
 
-cast-t19 : tie.Need-cast-t19
-cast-t19 c = search needs
-
-cast-t21 : tie.Need-cast-t21
-cast-t21 c = search needs
-
-cast-t23 : tie.Need-cast-t23
-cast-t23 c = search needs
-
-cast-t25 : tie.Need-cast-t25
-cast-t25 c = search needs
+put-count4-requires-2 : tie.Need-put-count4-requires-2
+put-count4-requires-2 c κs = search needs
 
 returns : tie.Need-returns
-returns c = cc
+returns c =
+    let b = c .before .before .before .before in
+    let w = b .before .before in
+    simp (c .before .put-count42 .ensures, b .put-count4 .ensures, w .weight-of2 .ensures .0, w .before .before .weight-of .ensures .0)
 
 pub position-bytes-spec : {M : Type 1} → statement M
 position-bytes-spec =
     tie.close
     (tie.spec
-    bit-of-requires
-    sub-bit-of
-    bit-of-requires-2
+    weight-of-requires
+    sub-weight-of
+    weight-of-requires-2
     add-first
-    cast-t8
-    cast-t10
-    cast-t15
-    cast-t17
-    cast-t19
-    cast-t21
-    cast-t23
-    cast-t25
+    array-write-bytes
+    slice-aggregate-put-count4
+    put-count4-requires
+    slice-aggregate-put-count4-2
+    put-count4-requires-2
     returns)

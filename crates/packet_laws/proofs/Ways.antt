@@ -1,0 +1,64 @@
+-- The ways that a packet can go: one case split, cited by every theorem.
+-- Assumes nothing.
+use Prim.Native.Nat.{ℕ, _≤_, _<_}
+use mathlib.Core.Bool.{Bool, true, false, not}
+use mathlib.Core.List.{List}
+use mathlib.Core.Path.{_≡_, refl}
+use borrow.Author.Tests.{eqb-true, eqb-false, eq-eqb}
+use lib.Dec.{eqb}
+use lib.ListN.{length}
+use Rattle.numbers.specs.Choice.{if_then_else_}
+use Rattle.image.specs.Header.{fieldsOf, brokenImage}
+use Rattle.packet_parts.specs.declared.state.Sense.{Sense}
+use Rattle.packet_parts.specs.declared.state.Verdict.{Verdict}
+use Rattle.packet_parts.specs.declared.state.Verdict.the-variants.{Refuses, Ends, Works}
+use Rattle.packet_parts.specs.Answers.{Left, notTwelveBytes, unrulyRecord, shortBuffer}
+use Rattle.packet_parts.specs.Requests.{packetLength}
+use Rattle.packet_parts.specs.Shell.{Device, refuses, carriedOut, foundBy, endsFirst, decided, answersTo}
+use Rattle.packet_parts.specs.Verdicts.{isProtected}
+use Rattle.packet_parts.proofs.VerdictLaws.{Modest, Found, found-early, found-short, found-clear, found}
+use Rattle.packet_laws.specs.Words.{roomFor, Unended, Passes}
+
+module _ {R : Type 0} (d : Device R) (s : List ℕ) (st : R) (packet buf : List ℕ) where
+  abbrev pub FoundFor : Verdict → Type 0
+  FoundFor v = Found (d .asks (fieldsOf s) st (d .request packet)) (isProtected (fieldsOf s)) (d .shared st) (length buf) v
+
+  pub found-for : FoundFor (foundBy d (fieldsOf s) st (d .request packet) (length buf))
+  found-for = found _ _ _ _
+
+  abbrev pub carried : Verdict → Left R
+  carried v = carriedOut d v s (fieldsOf s) st (d .request packet) buf
+
+  pub data Way : Left R → Type 0 where
+    cut : (length packet ≡ packetLength → ⊥) → Way (refuses st notTwelveBytes s buf)
+    broken : length packet ≡ packetLength → d .accepts s ≡ false → Way (refuses st brokenImage s buf)
+    unruly : length packet ≡ packetLength → d .accepts s ≡ true → d .keepsRules (fieldsOf s) st ≡ false → Way (refuses st unrulyRecord s buf)
+    short : Passes d s st packet buf → Unended d s st packet buf → length buf < roomFor d s st packet buf → Way (carried (Refuses shortBuffer))
+    ends-early : Passes d s st packet buf → (x : Sense) → endsFirst d (fieldsOf s) st (d .request packet) ≡ true → Modest 0 x → Way (carried (Ends x))
+    works : Passes d s st packet buf → Unended d s st packet buf → roomFor d s st packet buf ≤ length buf → Way (carried Works)
+
+  by-verdict : {v : Verdict} → Passes d s st packet buf → FoundFor v → Way (carried v)
+  by-verdict p (found-early x e k) = ends-early p x e k
+  by-verdict p (found-short e l) = short p e l
+  by-verdict p (found-clear e l) = works p e l
+
+  by-tests : (a b c : Bool) → eqb (length packet) packetLength ≡ a → d .accepts s ≡ b → d .keepsRules (fieldsOf s) st ≡ c
+      → Way
+      (if not a then refuses st notTwelveBytes s buf else
+      if not b then refuses st brokenImage s buf else
+      if not c then refuses st unrulyRecord s buf else
+      decided d s (fieldsOf s) st (d .request packet) buf)
+  unfolding decided
+  by-tests false b c p r t = cut (eqb-false _ _ p)
+  by-tests true false c p r t = broken (eqb-true _ _ p) r
+  by-tests true true false p r t = unruly (eqb-true _ _ p) r t
+  by-tests true true true p r t = by-verdict (record { twelve = eqb-true _ _ p; good = r; ruly = t }) found-for
+
+  pub way : Way (answersTo d s st packet buf)
+  unfolding answersTo
+  way = by-tests _ _ _ refl refl refl
+
+  -- past 1, 2 and 3 the verdict decides
+  pub step-passed : Passes d s st packet buf → answersTo d s st packet buf ≡ carried (foundBy d (fieldsOf s) st (d .request packet) (length buf))
+  unfolding answersTo decided
+  step-passed p = rw (eq-eqb _ _ (p .twelve), p .good, p .ruly)

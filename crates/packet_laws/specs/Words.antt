@@ -1,0 +1,76 @@
+-- The words in which the promises of a packet device are stated.
+-- Assumes nothing.
+use Prim.Native.Nat.{ℕ, _≤_, _<_}
+use mathlib.Core.Bool.{true, false}
+use mathlib.Core.List.{List}
+use mathlib.Core.Path.{_≡_}
+use lib.ListN.{length}
+use Rattle.numbers.specs.Choice.{if_then_else_}
+use Rattle.image.specs.Header.{fieldsOf, brokenImage}
+use Rattle.packet_parts.specs.declared.state.Sense.{Sense}
+use Rattle.packet_parts.specs.declared.state.Verdict.the-variants.{Works}
+use Rattle.packet_parts.specs.Answers.{Left, notTwelveBytes, unrulyRecord, shortBuffer}
+use Rattle.packet_parts.specs.Requests.{packetLength}
+use Rattle.packet_parts.specs.Shell.{Device, foundBy, endsFirst, answersTo}
+
+-- ---- an answer's parts
+
+abbrev pub numberOf : {R : Type 0} → Left R → ℕ
+numberOf x = x .answer .number
+
+abbrev pub statusOf : {R : Type 0} → Left R → ℕ
+statusOf x = x .answer .status
+
+abbrev pub blocksOf : {R : Type 0} → Left R → ℕ
+blocksOf x = x .answer .blocks
+
+abbrev pub bytesOf : {R : Type 0} → Left R → ℕ
+bytesOf x = x .answer .bytes
+
+-- the information where the sense is valid, else 0
+abbrev pub residueOf : Sense → ℕ
+residueOf x = if x .valid then x .information else 0
+
+-- ---- refusals
+
+-- 01: "A refusal returns its number, status 0, 0 blocks and bytes .., and alters nothing"
+pub record Refusal {R : Type 0} (s : List ℕ) (st : R) (buf : List ℕ) (x : Left R) : Type 0 where
+  pub status-zero : statusOf x ≡ 0
+  pub no-blocks : blocksOf x ≡ 0
+  pub no-bytes : bytesOf x ≡ 0
+  pub state-kept : x .state ≡ st
+  pub image-kept : x .image ≡ s
+  pub buf-kept : x .buf ≡ buf
+
+module _ {R : Type 0} (d : Device R) (s : List ℕ) (st : R) (packet buf : List ℕ) where
+  -- the bytes of room that the packet needs
+  abbrev pub roomFor : ℕ
+  roomFor = d .asks (fieldsOf s) st (d .request packet) .needed
+
+  -- 01: "attention, opcode, fields, not ready, protection": one of these ends the packet before refusal 4 is looked at
+  abbrev pub Unended : Type 0
+  Unended = endsFirst d (fieldsOf s) st (d .request packet) ≡ false
+
+  -- the packet, the image and the record pass 1, 2 and 3
+  pub record Passes : Type 0 where
+    pub twelve : length packet ≡ packetLength
+    pub good : d .accepts s ≡ true
+    pub ruly : d .keepsRules (fieldsOf s) st ≡ true
+
+  -- 01's table of refusal numbers, each with no earlier one holding; 0 where none is given
+  pub data Due : ℕ → Type 0 where
+    not-twelve : (length packet ≡ packetLength → ⊥) → Due notTwelveBytes
+    bad-image : length packet ≡ packetLength → d .accepts s ≡ false → Due brokenImage
+    bad-record : length packet ≡ packetLength → d .accepts s ≡ true → d .keepsRules (fieldsOf s) st ≡ false → Due unrulyRecord
+    too-short : Passes → Unended → length buf < roomFor → Due shortBuffer
+    accepted : Passes → (Unended → roomFor ≤ length buf) → Due 0
+
+  -- the packet is not refused, and nothing ends it before the work
+  pub record Begins : Type 0 where
+    pub not-refused : numberOf (answersTo d s st packet buf) ≡ 0
+    pub works : foundBy d (fieldsOf s) st (d .request packet) (length buf) ≡ Works
+
+-- the device's work refuses nothing: a packet that comes to it is given 0
+pub record Working {R : Type 0} (d : Device R) : Type 0 where
+  pub accepted : (s : List ℕ) (st : R) (packet buf : List ℕ) → Passes d s st packet buf → roomFor d s st packet buf ≤ length buf
+      → numberOf (d .work s (fieldsOf s) st (d .request packet) buf) ≡ 0

@@ -1,0 +1,34 @@
+-- `state::changed_state` meets its contract.
+-- Assumes nothing.
+use borrow.Author.Needs.{needs}
+use Rattle.packet_parts.proofs.state.changed_state.Statement.{statement}
+use Rattle.packet_parts.proofs.state.changed_state.Tie as tie
+
+stand-at-requires : tie.Need-stand-at-requires
+stand-at-requires c κs = search needs
+
+with-loaded-requires : tie.Need-with-loaded-requires
+with-loaded-requires c κs = search needs
+
+with-attention-requires : tie.Need-with-attention-requires
+with-attention-requires c κs = search needs
+
+no-sense-requires : tie.Need-no-sense-requires
+no-sense-requires c κs = search needs
+
+with-sense-requires : tie.Need-with-sense-requires
+with-sense-requires c κs = search needs
+
+returns : tie.Need-returns
+returns c = simp (c .with-sense .ensures, c .before .no-sense .ensures, c .before .before .with-attention .ensures, c .before .before .before .with-loaded .ensures, c .before .before .before .before .stand-at .ensures)
+
+pub changed-state-spec : {M : Type 1} → statement M
+changed-state-spec =
+    tie.close
+    (tie.spec
+    stand-at-requires
+    with-loaded-requires
+    with-attention-requires
+    no-sense-requires
+    with-sense-requires
+    returns)

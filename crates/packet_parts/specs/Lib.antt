@@ -1,0 +1,7 @@
+pub mod States
+pub mod Senses
+pub mod Requests
+pub mod Answers
+pub mod Verdicts
+pub mod Replies
+pub mod Shell

@@ -1,0 +1,70 @@
+// What a packet's answer is made of.
+ghost use mathlib.Core.Path.{_≡_};
+ghost use Rattle.packet_parts.specs.Answers.{answered, refused, endsBefore, answeredWith, ends};
+use crate::senses::no_sense;
+use crate::state::Answer;
+use crate::state::Attention;
+use crate::state::Ending;
+use crate::state::Outcome;
+use crate::state::Sense;
+use crate::state::State;
+use crate::state::with_attention;
+use crate::state::with_sense;
+
+const GOOD: u8 = 0;
+
+const CHECK_CONDITION: u8 = 2;
+
+pub fn refuse(state: State, number: u8) -> Outcome
+    ensures { λ r. ⌜ r ≡ refused state number ⌝ }
+{
+    let answer = Answer {
+        number,
+        status: 0,
+        blocks: 0,
+        bytes: 0,
+    };
+    Outcome { answer, state }
+}
+
+fn answer_of(status: u8, blocks: usize, bytes: usize) -> Answer
+    ensures { λ r. ⌜ r ≡ answered status blocks bytes ⌝ }
+{
+    Answer {
+        number: 0,
+        status,
+        blocks,
+        bytes,
+    }
+}
+
+pub fn end_before(state: State, sense: Sense) -> Outcome
+    ensures { λ r. ⌜ r ≡ endsBefore state sense ⌝ }
+{
+    let answer = answer_of(CHECK_CONDITION, 0, 0);
+    let next = with_sense(with_attention(state, Attention::Nothing), sense);
+    Outcome {
+        answer,
+        state: next,
+    }
+}
+
+fn answer_with(state: State, status: u8, sense: Sense, blocks: usize, bytes: usize) -> Outcome
+    ensures { λ r. ⌜ r ≡ answeredWith state status sense blocks bytes ⌝ }
+{
+    let answer = answer_of(status, blocks, bytes);
+    let next = with_sense(state, sense);
+    Outcome {
+        answer,
+        state: next,
+    }
+}
+
+pub fn end(state: State, ending: Ending, blocks: usize, bytes: usize) -> Outcome
+    ensures { λ r. ⌜ r ≡ ends state ending blocks bytes ⌝ }
+{
+    match ending {
+        Ending::Good => answer_with(state, GOOD, no_sense(), blocks, bytes),
+        Ending::Check(sense) => answer_with(state, CHECK_CONDITION, sense, blocks, bytes),
+    }
+}
