@@ -5,9 +5,7 @@ use mathlib.Core.Bool.{true, false}
 use mathlib.Core.List.{List}
 use mathlib.Core.Path.{_≡_}
 use lib.ListN.{length}
-use Rattle.numbers.specs.Choice.{if_then_else_}
 use Rattle.image.specs.Header.{fieldsOf, brokenImage}
-use Rattle.packet_parts.specs.declared.state.Sense.{Sense}
 use Rattle.packet_parts.specs.declared.state.Verdict.the-variants.{Works}
 use Rattle.packet_parts.specs.Answers.{Left, notTwelveBytes, unrulyRecord, shortBuffer}
 use Rattle.packet_parts.specs.Requests.{packetLength}
@@ -26,10 +24,6 @@ blocksOf x = x .answer .blocks
 
 abbrev pub bytesOf : {R : Type 0} → Left R → ℕ
 bytesOf x = x .answer .bytes
-
--- the information where the sense is valid, else 0
-abbrev pub residueOf : Sense → ℕ
-residueOf x = if x .valid then x .information else 0
 
 -- ---- refusals
 

@@ -24,7 +24,7 @@ use Rattle.stream_parts.specs.Replies.{pastWarning}
 use Rattle.packet_parts.specs.Senses.{noSense, volumeOverflow, earlyWarning}
 use Rattle.packet_parts.specs.States.{speeds, highestKey, keepsRecordRules}
 use Rattle.stream.specs.Work.{endingOf, writeEnding}
-use Rattle.packet_laws.specs.Words.{residueOf}
+use Rattle.stream_laws.specs.Words.{residueOf}
 
 abbrev pub senseOf : Ending → Sense
 senseOf Good = noSense

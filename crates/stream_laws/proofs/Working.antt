@@ -9,12 +9,12 @@ use Rattle.transfer.proofs.ReadLaws.{read-ended}
 use Rattle.transfer.proofs.WriteLaws.{lay-ended}
 use Rattle.packet_parts.specs.declared.requests.Request.{Request}
 use Rattle.packet_parts.specs.declared.state.State.{State}
-use Rattle.packet_laws.specs.Words.{blocksOf, residueOf}
+use Rattle.packet_laws.specs.Words.{blocksOf}
 use Rattle.packet_laws.proofs.Refusals.{begins-work}
 use Rattle.stream_parts.specs.Requests.{requestOf}
 use Rattle.stream.specs.Packet.{streamDevice}
 use Rattle.stream.specs.Work.{workOf, readWork, readEnds, writeWork, writeEnds, markWork}
-use Rattle.stream_laws.specs.Words.{Moves, by-read, by-write, by-filemarks}
+use Rattle.stream_laws.specs.Words.{residueOf, Moves, by-read, by-write, by-filemarks}
 use Rattle.stream_laws.specs.Demands.{MovedPlusResidue}
 use Rattle.stream_laws.proofs.Endings.{ends-is, read-residue, write-residue}
 

@@ -11,12 +11,12 @@ use Rattle.packet_parts.specs.declared.state.Outcome.{Outcome}
 use Rattle.packet_parts.specs.declared.state.State.{State}
 use Rattle.packet_parts.specs.States.{keepsRecordRules}
 use Rattle.packet_laws.specs.Promises.{CutPacket as CutPacketOf, RefusedKeeps as RefusedKeepsOf, NumberExactly as NumberExactlyOf, BeginsExactly as BeginsExactlyOf}
-use Rattle.packet_laws.specs.Words.{numberOf, blocksOf, residueOf}
+use Rattle.packet_laws.specs.Words.{numberOf, blocksOf}
 use Rattle.stream_parts.specs.Requests.{requestOf}
 use Rattle.stream.specs.Packet.{FreshPromise, ChangedPromise, PacketPromise, streamDevice, packetStep}
 use Rattle.stream_laws.specs.History.{Later}
 use Rattle.stream_laws.specs.Plates.{allAgree, plates}
-use Rattle.stream_laws.specs.Words.{BeginsWork, Moves, IsRecorded, EveryReadGives, Kept, AlikeBelowU}
+use Rattle.stream_laws.specs.Words.{residueOf, BeginsWork, Moves, IsRecorded, EveryReadGives, Kept, AlikeBelowU}
 
 -- What every packet device promises: "1: packet is not 12 bytes", whatever the image, the record and the buffer; nothing changes.
 abbrev pub CutPacket : Type 0

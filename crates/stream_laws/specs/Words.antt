@@ -5,6 +5,7 @@ use mathlib.Core.Bool.{Bool, true, false}
 use mathlib.Core.List.{List}
 use mathlib.Core.Path.{_≡_}
 use lib.ListN.{length, getD}
+use Rattle.numbers.specs.Choice.{if_then_else_}
 use Rattle.numbers.specs.Over.{part}
 use Rattle.image.specs.declared.header.Header.{Header}
 use Rattle.image.specs.Elements.{recordedField}
@@ -12,11 +13,16 @@ use Rattle.image.specs.Header.{fieldsOf}
 use Rattle.image.specs.Sameness.{IsBlock, SameElement, Alike, Outside}
 use Rattle.opcodes.specs.declared.Command.{Command}
 use Rattle.opcodes.specs.declared.Command.the-variants.{Unknown, TestUnitReady, Rewind, RequestSense, Read, Write, WriteFilemarks, Space, Inquiry, ModeSelect, ModeSense, LoadUnload, Locate, ReadPosition}
+use Rattle.packet_parts.specs.declared.state.Sense.{Sense}
 use Rattle.packet_parts.specs.declared.state.State.{State}
 use Rattle.packet_parts.specs.Answers.{Left}
 use Rattle.packet_laws.specs.Words.{blocksOf, bytesOf, Begins}
 use Rattle.stream_parts.specs.Requests.{requestOf}
 use Rattle.stream.specs.Packet.{streamDevice, packetStep}
+
+-- the information where the sense is valid, else 0
+abbrev pub residueOf : Sense → ℕ
+residueOf x = if x .valid then x .information else 0
 
 -- ---- the work
 
