@@ -172,24 +172,24 @@ fn space(image: &[u8], h: Header, state: State, code: u8, count: usize) -> Outco
     end(stand_at(state, moved.place), ending, 0, 0)
 }
 
-fn request_sense(state: State, asked: usize, buf: &mut [u8]) -> Outcome
+fn request_sense(state: State, asked: u8, buf: &mut [u8]) -> Outcome
     requires { ⌜ (state .sense .key ≤ 15) × (min asked 20 ≤ length (now buf)) ⌝ }
     ensures { λ r. ⌜ (r ≡ replyEnds (senseBytes (state .sense)) asked state) × (now (buf .exit) ≡ repliedInto (senseBytes (state .sense)) asked (now (buf .entry))) ⌝ }
 {
     let sense = state.sense;
     let bytes = sense_bytes(sense);
-    reply(&bytes, asked, state, buf)
+    reply(&bytes, asked as usize, state, buf)
 }
 
 // 12h: the device type of a tape.
 const SEQUENTIAL: u8 = 0x01;
 
-fn inquiry(state: State, asked: usize, buf: &mut [u8]) -> Outcome
+fn inquiry(state: State, asked: u8, buf: &mut [u8]) -> Outcome
     requires { ⌜ min asked 36 ≤ length (now buf) ⌝ }
     ensures { λ r. ⌜ (r ≡ replyEnds streamInquiry asked state) × (now (buf .exit) ≡ repliedInto streamInquiry asked (now (buf .entry))) ⌝ }
 {
     let bytes = inquiry_bytes(SEQUENTIAL);
-    reply(&bytes, asked, state, buf)
+    reply(&bytes, asked as usize, state, buf)
 }
 
 fn mode_sense(h: Header, state: State, q: Request, buf: &mut [u8]) -> Outcome
@@ -225,20 +225,21 @@ fn is_good_list(list: &[u8]) -> bool
     (list[SHORT_LIST] == DEVICE_PAGE) & (list[SHORT_LIST + 1] == DEVICE_PAGE_LENGTH) & known
 }
 
-fn mode_select(state: State, asked: usize, list: &[u8]) -> Outcome
+fn mode_select(state: State, asked: u8, list: &[u8]) -> Outcome
     requires { ⌜ asked ≤ length (now list) ⌝ }
     ensures { λ r. ⌜ r ≡ selectWork state asked (now (list .entry)) ⌝ }
 {
-    let full = asked == FULL_LIST;
+    let n = asked as usize;
+    let full = n == FULL_LIST;
     if full {
         let good = is_good_list(list);
         if good {
             let speed = count2(list, LIST_SPEED) as u16;
-            return end(with_speed(state, speed), Ending::Good, 0, asked);
+            return end(with_speed(state, speed), Ending::Good, 0, n);
         }
         return end(state, Ending::Check(wrong_list()), 0, 0);
     }
-    end(state, Ending::Good, 0, asked)
+    end(state, Ending::Good, 0, n)
 }
 
 fn load_unload(state: State, load: bool) -> Outcome
@@ -267,19 +268,17 @@ pub fn work(image: &mut [u8], h: Header, state: State, q: Request, buf: &mut [u8
     ensures { λ r. ⌜ done r (now (image .exit)) (now (buf .exit)) ≡ workOf (q .command) (now (image .entry)) h state q (now (buf .entry)) ⌝ }
 {
     let command = q.command;
-    let count = q.count;
-    let asked = q.length as usize;
     match command {
         Command::Unknown => end(state, Ending::Good, 0, 0),
         Command::TestUnitReady => end(state, Ending::Good, 0, 0),
         Command::Rewind => end(stand_at(state, 0), Ending::Good, 0, 0),
-        Command::RequestSense => request_sense(state, asked, buf),
-        Command::Read => read(image, h, state, count, buf),
-        Command::Write => write(image, h, state, count, buf),
-        Command::WriteFilemarks => write_marks(image, h, state, count, buf),
-        Command::Space => space(image, h, state, q.flags % 8, count),
-        Command::Inquiry => inquiry(state, asked, buf),
-        Command::ModeSelect => mode_select(state, asked, buf),
+        Command::RequestSense => request_sense(state, q.length, buf),
+        Command::Read => read(image, h, state, q.count, buf),
+        Command::Write => write(image, h, state, q.count, buf),
+        Command::WriteFilemarks => write_marks(image, h, state, q.count, buf),
+        Command::Space => space(image, h, state, q.flags % 8, q.count),
+        Command::Inquiry => inquiry(state, q.length, buf),
+        Command::ModeSelect => mode_select(state, q.length, buf),
         Command::ModeSense => mode_sense(h, state, q, buf),
         Command::LoadUnload => load_unload(state, is_set(q.length, 1)),
         Command::Locate => locate(h, state, q.target),

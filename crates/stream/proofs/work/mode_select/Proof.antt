@@ -23,7 +23,7 @@ cast-speed : tie.Need-cast-speed
 cast-speed c = search needs
 
 with-speed-requires : tie.Need-with-speed-requires
-with-speed-requires c κs = tt
+with-speed-requires c κs = search needs
 
 end-requires : tie.Need-end-requires
 end-requires c κs = search needs

@@ -9,9 +9,6 @@ use borrow.Author.Needs.{needs}
 use Rattle.stream.proofs.work.work.Statement.{statement}
 use Rattle.stream.proofs.work.work.Tie as tie
 
-cast-asked : tie.Need-cast-asked
-cast-asked c = search needs
-
 enum-told : tie.Need-enum-told
 enum-told c = search needs
 
@@ -39,7 +36,7 @@ enum-told-4 c = search needs
 request-sense-requires : tie.Need-request-sense-requires
 unfolding askedBy
 request-sense-requires c κs =
-    let start = c .before .before .before .before .before .before in
+    let start = c .before .before .before .before .before in
     (start .pre .0 .1 .1, needed-as _ RequestSense _ _ _ (c .before .enum-told4 .given .1) (start .pre .1 .1))
 
 enum-told-5 : tie.Need-enum-told-5
@@ -48,7 +45,7 @@ enum-told-5 c = search needs
 read-requires : tie.Need-read-requires
 unfolding askedBy
 read-requires c κs =
-    let start = c .before .before .before .before .before .before .before in
+    let start = c .before .before .before .before .before .before in
     (start .pre .0 .0, (start .pre .0 .1 .0, (start .pre .1 .0, needed-as _ Read _ _ _ (c .before .before .enum-told5 .given .1) (start .pre .1 .1))))
 
 enum-told-6 : tie.Need-enum-told-6
@@ -57,7 +54,7 @@ enum-told-6 c = search needs
 write-requires : tie.Need-write-requires
 unfolding askedBy
 write-requires c κs =
-    let start = c .before .before .before .before .before .before .before in
+    let start = c .before .before .before .before .before .before in
     (start .pre .0 .0, (start .pre .0 .1 .0, (start .pre .1 .0, needed-as _ Write _ _ _ (c .before .before .enum-told6 .given .1) (start .pre .1 .1))))
 
 enum-told-7 : tie.Need-enum-told-7
@@ -78,7 +75,7 @@ enum-told-9 c = search needs
 inquiry-requires : tie.Need-inquiry-requires
 unfolding askedBy
 inquiry-requires c κs =
-    let start = c .before .before .before .before .before .before in
+    let start = c .before .before .before .before .before in
     needed-as _ Inquiry _ _ _ (c .before .enum-told9 .given .1) (start .pre .1 .1)
 
 enum-told-10 : tie.Need-enum-told-10
@@ -87,7 +84,7 @@ enum-told-10 c = search needs
 mode-select-requires : tie.Need-mode-select-requires
 unfolding askedBy
 mode-select-requires c κs =
-    let start = c .before .before .before .before .before .before in
+    let start = c .before .before .before .before .before in
     needed-as _ ModeSelect _ _ _ (c .before .enum-told10 .given .1) (start .pre .1 .1)
 
 enum-told-11 : tie.Need-enum-told-11
@@ -96,7 +93,7 @@ enum-told-11 c = search needs
 mode-sense-requires : tie.Need-mode-sense-requires
 unfolding askedBy
 mode-sense-requires c κs =
-    let start = c .before .before .before .before .before .before in
+    let start = c .before .before .before .before .before in
     needed-as _ ModeSense _ _ _ (c .before .enum-told11 .given .1) (start .pre .1 .1)
 
 enum-told-12 : tie.Need-enum-told-12
@@ -120,7 +117,7 @@ enum-told-14 c = search needs
 read-position-requires : tie.Need-read-position-requires
 unfolding askedBy
 read-position-requires c κs =
-    let start = c .before .before .before .before .before .before in
+    let start = c .before .before .before .before .before in
     let g = sound _ _ (start .pre .0 .0) in
     (omega arith, needed-as _ ReadPosition _ _ _ (c .before .enum-told14 .given .1) (start .pre .1 .1))
 
@@ -206,7 +203,6 @@ pub work-spec : {M : Type 1} → statement M
 work-spec =
     tie.close
     (tie.spec
-    cast-asked
     enum-told
     end-requires
     enum-told-2
