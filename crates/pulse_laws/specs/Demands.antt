@@ -16,7 +16,7 @@ use Rattle.pulse.specs.declared.drive.Drive.{Drive}
 use Rattle.pulse.specs.Calls.{alreadySo, emptyTrain, insertCall, notRefused, removeCall, tickCall, trainCall, waitCall}
 use Rattle.pulse.specs.Drives.{isReady, powerOn}
 use Rattle.pulse.specs.Rules.{keepsRules}
-use Rattle.pulse_laws.specs.Plates.{every, plates}
+use Rattle.pulse_laws.specs.Plates.{allPrint, plates}
 use Rattle.pulse_laws.specs.Runs.{Exactly, KeepsIfRefused, Reachable, Settles, afterTicks, afterTrains, answers, beforeErrorReport, distance, namesLevel, outsideItsRanges, placeAfter, recoveryTrains, silentTicks, spelled}
 
 -- 01: "Every record that power-on or a call gives keeps the record rules."
@@ -110,4 +110,4 @@ pub record Settled : Type 0 where
 
 -- 01: "A small set is proved together as one table (*)"
 abbrev pub PlatesPrint : Type 0
-PlatesPrint = every plates ≡ true
+PlatesPrint = allPrint plates ≡ true
