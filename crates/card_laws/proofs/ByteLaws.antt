@@ -8,12 +8,12 @@ use native.Mathlib.Omega.{arith}
 use borrow.Author.Tests.{eq-eqb, ne-eqb, eqb-true}
 use Rattle.numbers.specs.Choice.{_≡ᵇ_}
 use Rattle.numbers.specs.Member.{isIn}
-use Rattle.pulse_laws.proofs.Bools.{never, or-by}
 use Rattle.stream_parts.specs.declared.state.Attention.{Attention}
 use Rattle.stream_parts.specs.declared.state.Attention.the-variants.{Nothing, MediumChanged, Reset}
 use Rattle.pulse_parts.specs.declared.head.Motion.{Motion}
 use Rattle.pulse_parts.specs.declared.head.Motion.the-variants.{Still, Run, Load}
 use Rattle.numbers.specs.Flags.{isSet, weightOf}
+use Rattle.numbers.proofs.Cases.{never, or-by}
 use Rattle.packet_record.specs.PacketRecord.{attentionOf, attentionByte}
 use Rattle.pulse_record.specs.PulseRecord.{motionOf, motionByte, unsent}
 

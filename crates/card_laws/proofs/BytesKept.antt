@@ -19,9 +19,9 @@ use Rattle.pulse_parts.specs.Errors.{admittedErrors}
 use Rattle.pulse_parts.specs.Reports.{mostItems}
 use Rattle.pulse.specs.declared.drive.Drive.{Drive}
 use Rattle.pulse.specs.Rules.{isFree, keepsRules, maxFormat, maxKind, maxTracks}
-use Rattle.pulse_laws.proofs.Bools.{ands, or-by, test}
 use Rattle.pulse_laws.proofs.Rules.{Cart, full, bare, to-rules}
 use Rattle.numbers.specs.Flags.{weightOf}
+use Rattle.numbers.proofs.Cases.{ands, or-by, test}
 use Rattle.pulse_record.specs.PulseRecord.{motionByte, waitedCode, encodeDrive}
 use Rattle.card_laws.specs.Promises.{Bytes, FitsBytes}
 use Rattle.card_laws.proofs.ByteLaws.{largest, in-largest}

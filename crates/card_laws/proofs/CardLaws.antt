@@ -5,6 +5,7 @@ use mathlib.Core.Bool.{Bool}
 use mathlib.Core.List.{List}
 use Prim.Native.Nat.{ℕ}
 use borrow.Author.Tests.{ne-eqb}
+use Rattle.numbers.proofs.Cases.{settles}
 use Rattle.stream_parts.specs.declared.state.State.{State}
 use Rattle.stream_parts.specs.Answers.{Step}
 use Rattle.stream_laws.specs.Words.{Refusal}
@@ -15,7 +16,6 @@ use Rattle.tapecard.specs.PacketCalls.{packetCard, packetFresh, packetChange, p
 use Rattle.pulse_record.specs.PulseRecord.{encodeTold}
 use Rattle.tapecard.specs.PulseCalls.{pulseLeft, pulsePowerOn, pulseTrain, pulseTick, pulseInsert, pulseRemove, pulseWait}
 use Rattle.card_laws.specs.Promises.{PacketRefusedUntouched, UntouchedIfRefused, TrainRefusedUntouched, TickRefusedUntouched, InsertRefusedUntouched, RemoveRefusedUntouched, WaitRefusedUntouched, CountsWhole, Settled}
-use Rattle.pulse_laws.proofs.Answers.{settles}
 use Rattle.card_laws.proofs.PacketFollowing.{blocks-whole, bytes-whole}
 use Rattle.card_laws.proofs.PulseFollowing.{ticks-whole}
 

@@ -10,6 +10,7 @@ use lib.ListN.{getD}
 use Rattle.numbers.proofs.CountLaws.{count-bound}
 use Rattle.numbers.specs.Counts.{countAt}
 use Rattle.numbers.specs.Choice.{if_then_else_, _≡ᵇ_, _<ᵇ_}
+use Rattle.numbers.proofs.Cases.{ands}
 use Rattle.stream_parts.specs.declared.state.Attention.{Attention}
 use Rattle.stream_parts.specs.declared.state.Sense.{Sense}
 use Rattle.stream_parts.specs.declared.state.State.{State}
@@ -26,7 +27,6 @@ use Rattle.pulse_parts.specs.Codes.{seekTrack, selectRate, skipReverse, skipFor
 use Rattle.pulse.specs.declared.drive.Drive.{Drive}
 use Rattle.pulse.specs.Drives.{driveOf}
 use Rattle.pulse.specs.Rules.{isFree}
-use Rattle.pulse_laws.proofs.Bools.{ands}
 use Rattle.pulse_laws.proofs.Rules.{Cart, full, bare, to-rules}
 use Rattle.packet_record.specs.PacketRecord.{decodeState, encodeState}
 use Rattle.pulse_record.specs.PulseRecord.{waitingOf, waitedCode, waitedHeld, waitedValue, cartridgeOf, cartridgeByte, cartridgeIn, headIn, reportIn}

@@ -9,6 +9,7 @@ use native.Mathlib.Omega.{arith}
 use borrow.Author.Tests.{eqb-true, eqb-false, not-false}
 use Rattle.numbers.specs.Choice.{_≡ᵇ_}
 use Rattle.numbers.specs.Counts.{countAt}
+use Rattle.numbers.proofs.Cases.{either}
 use Rattle.pulse_parts.specs.declared.cartridge.Cartridge.{Cartridge}
 use Rattle.pulse.specs.declared.calls.Waited.{Waited}
 use Rattle.pulse.specs.declared.drive.Drive.{Drive}
@@ -19,7 +20,6 @@ use Rattle.pulse.specs.Motions.{ticked}
 use Rattle.pulse.specs.Rules.{keepsRules}
 use Rattle.pulse_laws.specs.Runs.{Exactly}
 use Rattle.pulse_laws.proofs.Answers.{number-exactly, refused-keeps}
-use Rattle.pulse_laws.proofs.Bools.{either}
 use Rattle.pulse_laws.proofs.Calls.{wait-by}
 use Rattle.pulse_laws.proofs.Kept.{rules-kept}
 use Rattle.pulse_record.specs.PulseRecord.{decodeDrive, encodeDrive, encodeTold, describedCartridge, describedPlace}

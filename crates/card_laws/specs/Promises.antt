@@ -13,14 +13,15 @@ use Rattle.pulse.specs.Calls.{trainCall, tickCall, insertCall, removeCall, wait
 use Rattle.pulse.specs.Drives.{powerOn}
 use Rattle.pulse.specs.Rules.{keepsRules}
 use Rattle.pulse_laws.specs.Demands.{Recovered}
-use Rattle.pulse_laws.specs.Runs.{Settles, answers, recoveryTrains, silentTicks}
+use Rattle.pulse_laws.specs.Runs.{answers, recoveryTrains, silentTicks}
 use Rattle.card_laws.specs.Sessions.{answersOn, ticksOn, told, trainsOn}
 use Rattle.stream_parts.specs.States.{freshState, changedState}
 use Rattle.stream.specs.Packet.{packetStep}
 use Rattle.stream_laws.specs.Words.{stateOf, blocksOf, bytesOf}
 use Rattle.numbers.specs.Counts.{countAt}
+use Rattle.numbers.specs.Outcomes.{Settles}
 use Rattle.packet_record.specs.PacketRecord.{decodeState, encodeState}
-use Rattle.tapecard.specs.PacketCalls.{packetCard, packetFresh, packetChange, packetCall}
+use Rattle.tapecard.specs.PacketCalls.{PacketCard, packetCard, packetFresh, packetChange, packetCall}
 use Rattle.pulse_record.specs.PulseRecord.{decodeDrive, encodeDrive, describedCartridge, describedPlace}
 use Rattle.tapecard.specs.PulseCalls.{PulseCard, pulsePowerOn, pulseTrain, pulseTick, pulseInsert, pulseRemove, pulseWait}
 
@@ -143,12 +144,12 @@ pub record CountsWhole : Type 0 where
 -- ---- 01: "Prove that any two outcomes allowed by it coincide"
 
 pub record Settled : Type 0 where
-  pub fresh : Settles packetFresh
-  pub change : (state : List ℕ) → Settles (packetChange state)
-  pub packet : (state image packet buf : List ℕ) → Settles (packetCall state image packet buf)
-  pub power-on : (vendor rom : ℕ) → Settles (pulsePowerOn vendor rom)
-  pub train : (state : List ℕ) (pulses : ℕ) → Settles (pulseTrain state pulses)
-  pub tick : (state : List ℕ) → Settles (pulseTick state)
-  pub insert : (state cartridge : List ℕ) → Settles (pulseInsert state cartridge)
-  pub remove : (state : List ℕ) → Settles (pulseRemove state)
-  pub wait : (state : List ℕ) (limit : ℕ) → Settles (pulseWait state limit)
+  pub fresh : Settles (λ (x : List ℕ). x ≡ packetFresh)
+  pub change : (state : List ℕ) → Settles (λ (x : List ℕ). x ≡ packetChange state)
+  pub packet : (state image packet buf : List ℕ) → Settles (λ (x : PacketCard). x ≡ packetCall state image packet buf)
+  pub power-on : (vendor rom : ℕ) → Settles (λ (x : List ℕ). x ≡ pulsePowerOn vendor rom)
+  pub train : (state : List ℕ) (pulses : ℕ) → Settles (λ (x : PulseCard). x ≡ pulseTrain state pulses)
+  pub tick : (state : List ℕ) → Settles (λ (x : PulseCard). x ≡ pulseTick state)
+  pub insert : (state cartridge : List ℕ) → Settles (λ (x : PulseCard). x ≡ pulseInsert state cartridge)
+  pub remove : (state : List ℕ) → Settles (λ (x : PulseCard). x ≡ pulseRemove state)
+  pub wait : (state : List ℕ) (limit : ℕ) → Settles (λ (x : PulseCard). x ≡ pulseWait state limit)

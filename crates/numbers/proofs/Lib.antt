@@ -1,4 +1,5 @@
 pub mod Branches
+pub mod Cases
 pub mod CountLaws
 pub mod MemberLaws
 pub mod OverLaws

@@ -2,5 +2,6 @@ pub mod Choice
 pub mod Counts
 pub mod Flags
 pub mod Member
+pub mod Outcomes
 pub mod Over
 pub mod RuleList

@@ -4,8 +4,9 @@ use Prim.Native.Nat.{ℕ}
 use native.Mathlib.Omega.{arith}
 use mathlib.Core.Bool.{Bool, true, false, not, cond, true≢false, false≢true}
 use mathlib.Core.Logic.{_≢_}
-use mathlib.Core.Path.{_≡_, refl, sym, _∙_}
+use mathlib.Core.Path.{_≡_, refl, sym}
 use Rattle.numbers.specs.Choice.{_≡ᵇ_}
+use Rattle.numbers.proofs.Cases.{settles}
 use Rattle.pulse_parts.specs.declared.cartridge.Cartridge.{Cartridge}
 use Rattle.pulse.specs.declared.calls.Step.{Step}
 use Rattle.pulse.specs.declared.calls.Waited.{Waited}
@@ -15,7 +16,7 @@ use Rattle.pulse.specs.Drives.{powerOn}
 use Rattle.pulse.specs.Rules.{keepsRules}
 use Rattle.pulse_laws.proofs.Calls.{insert-by, remove-by, tick-by, train-by, wait-by}
 use Rattle.pulse_laws.specs.Demands.{NumberExactly, RefusedKeeps, Settled}
-use Rattle.pulse_laws.specs.Runs.{Exactly, KeepsIfRefused, Settles, outsideItsRanges}
+use Rattle.pulse_laws.specs.Runs.{Exactly, KeepsIfRefused, outsideItsRanges}
 
 -- ---- a refusal alters nothing
 module _ (d : Drive) where
@@ -118,9 +119,6 @@ number-exactly =
     }
 
 -- ---- one outcome
-pub settles : {A : Type 0} (outcome : A) → Settles outcome
-settles outcome x y p q = p ∙ sym q
-
 pub settled : Settled
 settled =
     record {

@@ -8,6 +8,7 @@ use mathlib.Core.Path.{_≡_, refl, sym, _∙_}
 use borrow.Author.Tests.{ltb-true, not-true}
 use Rattle.numbers.specs.Choice.{_<ᵇ_, _≡ᵇ_, _≤ᵇ_}
 use Rattle.numbers.specs.Member.{isIn}
+use Rattle.numbers.proofs.Cases.{and-l, and-r, ands, either, never, or-r, test}
 use Rattle.pulse_parts.specs.declared.arguments.Nibble.{Nibble}
 use Rattle.pulse_parts.specs.declared.arguments.Nibble.the-variants.{OutOfRange, Value}
 use Rattle.pulse_parts.specs.declared.arguments.Waiting.{Waiting}
@@ -22,7 +23,6 @@ use Rattle.pulse.specs.Arguments.{argumentFor, argumentOr, argumentRead, argume
 use Rattle.pulse.specs.Drives.{withRate, withoutArguments}
 use Rattle.pulse.specs.Rules.{isFree}
 use Rattle.pulse_parts.proofs.ArgumentLaws.{value-in-range}
-use Rattle.pulse_laws.proofs.Bools.{and-l, and-r, ands, either, never, or-r, test}
 use Rattle.pulse_laws.proofs.Motion.{within}
 use Rattle.pulse_laws.proofs.Rules.{Calm, Cart, Rules, Waits, bare, full}
 use Rattle.pulse_laws.proofs.Idle.{Idle, idle-rules, latch-idle, run-idle}

@@ -4,6 +4,7 @@ use Prim.Native.Nat.{ℕ}
 use mathlib.Core.Bool.{true, false, not}
 use mathlib.Core.Path.{_≡_}
 use Rattle.numbers.specs.Choice.{_≡ᵇ_}
+use Rattle.numbers.proofs.Cases.{either}
 use Rattle.pulse_parts.specs.declared.cartridge.Cartridge.{Cartridge}
 use Rattle.pulse.specs.declared.calls.Step.{Step}
 use Rattle.pulse.specs.declared.calls.Waited.{Waited}
@@ -14,7 +15,6 @@ use Rattle.pulse.specs.Events.{inserted, removed, runFor, stepsTo}
 use Rattle.pulse.specs.Motions.{ticked}
 use Rattle.pulse.specs.Rules.{keepsRules}
 use Rattle.pulse.specs.Train.{trainStep}
-use Rattle.pulse_laws.proofs.Bools.{either}
 use Rattle.pulse_laws.proofs.Rules.{Rules, of-rules}
 use Rattle.pulse_laws.specs.Runs.{outsideItsRanges}
 

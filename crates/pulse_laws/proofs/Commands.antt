@@ -7,6 +7,7 @@ use mathlib.Core.Path.{_≡_, refl, _∙_}
 use borrow.Author.Tests.{eqb-true, leb-true, not-false}
 use Rattle.numbers.specs.Choice.{_<ᵇ_, _≡ᵇ_, _≤ᵇ_}
 use Rattle.numbers.specs.Member.{isIn}
+use Rattle.numbers.proofs.Cases.{allBelow, and-r, below, either, no-l, or-by}
 use Rattle.pulse_parts.specs.declared.arguments.Waiting.the-variants.{For}
 use Rattle.pulse_parts.specs.Arguments.{needed}
 use Rattle.pulse_parts.specs.Codes.{between, isReport, isSkip, logicalForward, needsCartridge, needsReference, pause, physicalForward}
@@ -20,7 +21,6 @@ use Rattle.pulse.specs.declared.drive.Drive.{Drive}
 use Rattle.pulse.specs.Commands.{checked, obeyed, stepCommand}
 use Rattle.pulse.specs.Drives.{isReady}
 use Rattle.pulse.specs.Motions.{latched, loadStarted, runStarted, stopped}
-use Rattle.pulse_laws.proofs.Bools.{allBelow, and-r, below, either, no-l, or-by}
 use Rattle.pulse_laws.proofs.Idle.{Idle, idle-rules, latch-idle, load-waiting, run-idle}
 use Rattle.pulse_laws.proofs.Motion.{load-calm, stop-calm}
 use Rattle.pulse_laws.proofs.Rules.{Rules, Waits}

@@ -4,6 +4,7 @@ use Prim.Native.Nat.{ℕ, _≤_}
 use mathlib.Core.Bool.{true, false}
 use mathlib.Core.Path.{_≡_, refl, _∙_}
 use Rattle.numbers.specs.Choice.{_≡ᵇ_}
+use Rattle.numbers.proofs.Cases.{either}
 use Rattle.pulse_parts.specs.declared.arguments.Waiting.{Waiting}
 use Rattle.pulse_parts.specs.declared.arguments.Waiting.the-variants.{Nothing}
 use Rattle.pulse_parts.specs.Errors.{admitted}
@@ -11,7 +12,6 @@ use Rattle.pulse_parts.specs.Faults.{errorHeld}
 use Rattle.pulse_parts.specs.Heads.{isRun}
 use Rattle.pulse.specs.declared.drive.Drive.{Drive}
 use Rattle.pulse.specs.Motions.{latched, loadStarted, runStarted}
-use Rattle.pulse_laws.proofs.Bools.{either}
 use Rattle.pulse_laws.proofs.Motion.{latch-calm, run-calm}
 use Rattle.pulse_laws.proofs.Rules.{Calm, Rules}
 

@@ -5,6 +5,7 @@ use mathlib.Core.Bool.{Bool, true, false, cond, _||_}
 use mathlib.Core.Path.{_≡_, refl, ap}
 use borrow.Author.Tests.{eqb-true, not-false}
 use Rattle.numbers.specs.Choice.{_≡ᵇ_}
+use Rattle.numbers.proofs.Cases.{either, never, no-l}
 use Rattle.pulse_parts.specs.declared.arguments.Waiting.{Waiting}
 use Rattle.pulse_parts.specs.declared.arguments.Waiting.the-variants.{For, Nothing}
 use Rattle.pulse_parts.specs.declared.head.Motion.{Motion}
@@ -21,7 +22,6 @@ use Rattle.pulse.specs.Events.{inserted, removed, runFor, stepsTo}
 use Rattle.pulse.specs.Motions.{arrived, latched, loadStarted, motionEnded, runStarted, ticked}
 use Rattle.pulse.specs.Reports.{stepReport}
 use Rattle.pulse.specs.Train.{stepReset, stepUnsupported, trainStep}
-use Rattle.pulse_laws.proofs.Bools.{either, never, no-l}
 use Rattle.pulse_laws.proofs.Calls.{insert-by, remove-by, tick-by, train-by, wait-by}
 use Rattle.pulse_laws.specs.Demands.{LevelKept}
 use Rattle.pulse_laws.specs.Runs.{namesLevel}

@@ -1,4 +1,3 @@
-pub mod Bools
 pub mod Rules
 pub mod Motion
 pub mod Idle

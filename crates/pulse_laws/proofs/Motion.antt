@@ -6,6 +6,7 @@ use mathlib.Core.Bool.{Bool, true, false, not, or-true}
 use mathlib.Core.Path.{_≡_, refl, sym, _∙_, ap}
 use borrow.Author.Tests.{leb-true, ltb-true, eqb-false}
 use Rattle.numbers.specs.Choice.{_<ᵇ_, _≡ᵇ_, _≤ᵇ_}
+use Rattle.numbers.proofs.Cases.{ands, either, never, or-r}
 use Rattle.pulse_parts.specs.declared.cartridge.Cartridge.{Cartridge}
 use Rattle.pulse_parts.specs.declared.head.Head.{Head}
 use Rattle.pulse_parts.specs.declared.head.Motion.{Motion}
@@ -17,7 +18,6 @@ use Rattle.pulse.specs.declared.drive.Drive.{Drive}
 use Rattle.pulse.specs.Drives.{isReady, withFault, withHead, withoutArguments}
 use Rattle.pulse.specs.Motions.{arrived, latched, loadEnded, loadStarted, motionEnded, runStarted, stopped, ticked}
 use Rattle.pulse.specs.Rules.{heldErrorFits}
-use Rattle.pulse_laws.proofs.Bools.{ands, either, never, or-r}
 use Rattle.pulse_laws.proofs.Rules.{Calm, Cart, Moves, Within, bare, full, loads, rests, runs}
 
 -- where a cartridge is in

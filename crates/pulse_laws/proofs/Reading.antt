@@ -8,6 +8,7 @@ use mathlib.Core.Path.{_≡_, refl, sym, _∙_, ap}
 use borrow.Author.Tests.{eqb-true, ltb-false, lt-leb, le-leb, lt-ltb, not-true}
 use lib.ListN.{drop, length, replicate}
 use Rattle.numbers.specs.Choice.{_≡ᵇ_, _≤ᵇ_}
+use Rattle.numbers.proofs.Cases.{and-l, and-r, either, never, or-by, test}
 use Rattle.pulse_parts.specs.declared.head.Head.{Head}
 use Rattle.pulse_parts.specs.declared.reports.Report.{Report}
 use Rattle.pulse_parts.specs.Arguments.{isWaiting}
@@ -21,7 +22,6 @@ use Rattle.pulse.specs.Drives.{isReady, withLevel, withReport}
 use Rattle.pulse.specs.Reports.{itemGiven, stepOpenReport, stepReport}
 use Rattle.pulse.specs.Train.{trainStep}
 use Rattle.pulse_laws.proofs.Calls.{train-is}
-use Rattle.pulse_laws.proofs.Bools.{and-l, and-r, either, never, or-by, test}
 use Rattle.pulse_laws.proofs.Idle.{Idle, idle-rules}
 use Rattle.pulse_laws.proofs.Reports.{in-report-idle, open-report-idle}
 use Rattle.pulse_laws.proofs.Resting.{Stays, in-report-stays, open-stays}

@@ -9,6 +9,7 @@ use mathlib.Core.Path.{_≡_, refl, sym, _∙_, ap}
 use borrow.Author.Tests.{leb-true, le-ltb}
 use lib.ListN.{length}
 use Rattle.numbers.specs.Choice.{_≡ᵇ_, _≤ᵇ_}
+use Rattle.numbers.proofs.Cases.{ands, either, test}
 use Rattle.pulse_parts.specs.declared.arguments.Waiting.the-variants.{Nothing}
 use Rattle.pulse_parts.specs.declared.fault.Fault.{Fault}
 use Rattle.pulse_parts.specs.declared.marks.Marks.{Marks}
@@ -24,7 +25,6 @@ use Rattle.pulse.specs.Events.{runFor}
 use Rattle.pulse.specs.Motions.{arrived, ticked}
 use Rattle.pulse.specs.Reports.{errorRead, reportOf, statusAsked, stepOpenReport}
 use Rattle.pulse.specs.Train.{trainStep}
-use Rattle.pulse_laws.proofs.Bools.{ands, either, test}
 use Rattle.pulse_laws.proofs.Idle.{Idle}
 use Rattle.pulse_laws.proofs.Kept.{reachable-keeps}
 use Rattle.pulse_laws.proofs.Motion.{ended, nearer, within}

@@ -7,6 +7,7 @@ use mathlib.Core.Path.{_≡_, refl}
 use borrow.Author.Tests.{le-leb, leb-true}
 use Rattle.numbers.specs.Choice.{_≡ᵇ_, _≤ᵇ_}
 use Rattle.numbers.specs.Member.{isIn}
+use Rattle.numbers.proofs.Cases.{and-l, either}
 use Rattle.pulse_parts.specs.declared.cartridge.Cartridge.{Cartridge}
 use Rattle.pulse_parts.specs.declared.reports.Report.{Report}
 use Rattle.pulse_parts.specs.Codes.{ignored, reportConfiguration, reportError, reportNextBit, reportRom, reportStatus, reportVendor}
@@ -15,7 +16,6 @@ use Rattle.pulse_parts.specs.Errors.{illegalInReport}
 use Rattle.pulse.specs.declared.drive.Drive.{Drive}
 use Rattle.pulse.specs.Drives.{isReady, withLevel, withReport}
 use Rattle.pulse.specs.Reports.{errorRead, itemGiven, opened, reportOf, statusAsked, stepOpenReport, stepReport}
-use Rattle.pulse_laws.proofs.Bools.{and-l, either}
 use Rattle.pulse_laws.proofs.Idle.{Idle, latch-idle}
 use Rattle.pulse_laws.proofs.Rules.{Cart, bare, full}
 

@@ -5,6 +5,7 @@ use mathlib.Core.Bool.{true, false, not, _||_}
 use mathlib.Core.Path.{_≡_, refl, ap}
 use borrow.Author.Tests.{ne-eqb, not-true}
 use Rattle.numbers.specs.Choice.{_<ᵇ_, _≡ᵇ_}
+use Rattle.numbers.proofs.Cases.{and-l, and-r, ands, either, never, or-by}
 use Rattle.pulse_parts.specs.declared.arguments.Waiting.{Waiting}
 use Rattle.pulse_parts.specs.declared.arguments.Waiting.the-variants.{For, Nothing}
 use Rattle.pulse_parts.specs.declared.head.Head.{Head}
@@ -24,7 +25,6 @@ use Rattle.pulse.specs.Motions.{latched}
 use Rattle.pulse.specs.Reports.{errorRead, itemGiven, statusAsked, stepOpenReport, stepReport}
 use Rattle.pulse.specs.Rules.{isFree}
 use Rattle.pulse.specs.Train.{stepUnsupported, trainStep}
-use Rattle.pulse_laws.proofs.Bools.{and-l, and-r, ands, either, never, or-by}
 use Rattle.pulse_laws.proofs.Calls.{train-by}
 use Rattle.pulse_laws.proofs.Rules.{Moves, Rules, Waits, loads, rests, runs, to-rules}
 use Rattle.pulse_laws.specs.Demands.{OnlyResetStarts}

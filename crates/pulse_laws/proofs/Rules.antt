@@ -5,6 +5,7 @@ use mathlib.Core.Bool.{Bool, true, false, not}
 use mathlib.Core.Path.{_≡_, refl}
 use borrow.Author.Tests.{lt-ltb, le-leb, eq-eqb, ne-eqb, ltb-true, leb-true, eqb-true, eqb-false, not-true}
 use Rattle.numbers.specs.Choice.{_≡ᵇ_, _≤ᵇ_}
+use Rattle.numbers.proofs.Cases.{and-i, and-l, and-r, ands, test}
 use Rattle.pulse_parts.specs.declared.arguments.Waiting.{Waiting}
 use Rattle.pulse_parts.specs.declared.cartridge.Cartridge.{Cartridge}
 use Rattle.pulse_parts.specs.declared.fault.Fault.{Fault}
@@ -20,7 +21,6 @@ use Rattle.pulse_parts.specs.Heads.{motionFits}
 use Rattle.pulse_parts.specs.Reports.{reportFits}
 use Rattle.pulse.specs.declared.drive.Drive.{Drive}
 use Rattle.pulse.specs.Rules.{cartridgeFits, headInside, heldErrorFits, inRanges, isFree, keepsRules, nothingInside}
-use Rattle.pulse_laws.proofs.Bools.{and-i, and-l, and-r, ands, test}
 
 -- a cartridge and a head within it
 pub record Within (c : Cartridge) (s t k : ℕ) : Type 0 where

@@ -7,6 +7,7 @@ use mathlib.Core.Bool.{true, false}
 use mathlib.Core.Path.{_≡_, refl, sym, _∙_, ap}
 use borrow.Author.Tests.{leb-true, leb-false, ltb-true, ltb-false, eqb-true, le-leb, lt-leb, le-ltb, lt-ltb}
 use Rattle.numbers.specs.Choice.{_<ᵇ_, _≡ᵇ_, _≤ᵇ_}
+use Rattle.numbers.proofs.Cases.{either, never, test}
 use Rattle.pulse_parts.specs.declared.head.Head.{Head}
 use Rattle.pulse_parts.specs.declared.head.Motion.{Motion}
 use Rattle.pulse_parts.specs.Heads.{isLoad, isStill, toward}
@@ -17,7 +18,6 @@ use Rattle.pulse.specs.Drives.{isReady, withHead, withoutArguments}
 use Rattle.pulse.specs.Events.{runFor, stepsTo}
 use Rattle.pulse.specs.Motions.{arrived, ticked}
 use Rattle.pulse_laws.proofs.Calls.{tick-is, wait-is}
-use Rattle.pulse_laws.proofs.Bools.{either, never, test}
 use Rattle.pulse_laws.proofs.Kept.{reachable-keeps}
 use Rattle.pulse_laws.proofs.Motion.{ended, nearer, off-target}
 use Rattle.pulse_laws.proofs.Rules.{Moves, Rules, loads, rests, runs, to-rules}

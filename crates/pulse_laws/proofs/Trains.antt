@@ -6,6 +6,7 @@ use mathlib.Core.Path.{_≡_, refl, sym, _∙_, ap}
 use borrow.Author.Tests.{leb-true, not-false}
 use Rattle.numbers.specs.Choice.{_<ᵇ_, _≡ᵇ_, _≤ᵇ_}
 use Rattle.numbers.specs.Member.{isIn}
+use Rattle.numbers.proofs.Cases.{ands, either, never}
 use Rattle.pulse_parts.specs.declared.arguments.Waiting.{Waiting}
 use Rattle.pulse_parts.specs.declared.arguments.Waiting.the-variants.{For, Nothing}
 use Rattle.pulse_parts.specs.declared.cartridge.Cartridge.{Cartridge}
@@ -25,7 +26,6 @@ use Rattle.pulse.specs.Reports.{stepOpenReport, stepReport}
 use Rattle.pulse.specs.Rules.{inRanges}
 use Rattle.pulse.specs.Train.{cleared, stepReset, stepUnsupported, trainStep}
 use Rattle.pulse_laws.proofs.Arguments.{argument-rules}
-use Rattle.pulse_laws.proofs.Bools.{ands, either, never}
 use Rattle.pulse_laws.proofs.Commands.{command-rules}
 use Rattle.pulse_laws.proofs.Idle.{Awaits, Idle, idle-rules, latch-idle, load-waiting}
 use Rattle.pulse_laws.proofs.Motion.{ended, latch-calm, load-calm, nearer, stop-calm, tick-calm}

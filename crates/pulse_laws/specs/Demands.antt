@@ -7,17 +7,19 @@ use mathlib.Core.Logic.{_≢_}
 use mathlib.Core.Path.{_≡_}
 use lib.ListN.{drop, length, replicate}
 use Rattle.numbers.specs.Choice.{_≡ᵇ_}
+use Rattle.numbers.specs.Outcomes.{Settles}
 use Rattle.pulse_parts.specs.declared.cartridge.Cartridge.{Cartridge}
 use Rattle.pulse_parts.specs.Codes.{softReset}
 use Rattle.pulse_parts.specs.Errors.{noError}
 use Rattle.pulse_parts.specs.Faults.{errorHeld}
 use Rattle.pulse.specs.declared.calls.Step.{Step}
+use Rattle.pulse.specs.declared.calls.Waited.{Waited}
 use Rattle.pulse.specs.declared.drive.Drive.{Drive}
 use Rattle.pulse.specs.Calls.{alreadySo, emptyTrain, insertCall, notRefused, removeCall, tickCall, trainCall, waitCall}
 use Rattle.pulse.specs.Drives.{isReady, powerOn}
 use Rattle.pulse.specs.Rules.{keepsRules}
 use Rattle.pulse_laws.specs.Plates.{allPrint, plates}
-use Rattle.pulse_laws.specs.Runs.{Exactly, KeepsIfRefused, Reachable, Settles, afterTicks, afterTrains, answers, beforeErrorReport, distance, namesLevel, outsideItsRanges, placeAfter, recoveryTrains, silentTicks, spelled}
+use Rattle.pulse_laws.specs.Runs.{Exactly, KeepsIfRefused, Reachable, afterTicks, afterTrains, answers, beforeErrorReport, distance, namesLevel, outsideItsRanges, placeAfter, recoveryTrains, silentTicks, spelled}
 
 -- 01: "Every record that power-on or a call gives keeps the record rules."
 pub record RulesKept : Type 0 where
@@ -101,12 +103,12 @@ OnlyResetStarts =
 
 -- 01: "Prove that any two outcomes allowed by it coincide"
 pub record Settled : Type 0 where
-  pub power-on : (vendor rom : ℕ) → Settles (powerOn vendor rom)
-  pub train : (d : Drive) (n : ℕ) → Settles (trainCall d n)
-  pub tick : (d : Drive) → Settles (tickCall d)
-  pub insert : (d : Drive) (cart : Cartridge) (place : ℕ) → Settles (insertCall d cart place)
-  pub remove : (d : Drive) → Settles (removeCall d)
-  pub wait : (d : Drive) (limit : ℕ) → Settles (waitCall d limit)
+  pub power-on : (vendor rom : ℕ) → Settles (λ (x : Drive). x ≡ powerOn vendor rom)
+  pub train : (d : Drive) (n : ℕ) → Settles (λ (x : Step). x ≡ trainCall d n)
+  pub tick : (d : Drive) → Settles (λ (x : Step). x ≡ tickCall d)
+  pub insert : (d : Drive) (cart : Cartridge) (place : ℕ) → Settles (λ (x : Step). x ≡ insertCall d cart place)
+  pub remove : (d : Drive) → Settles (λ (x : Step). x ≡ removeCall d)
+  pub wait : (d : Drive) (limit : ℕ) → Settles (λ (x : Waited). x ≡ waitCall d limit)
 
 -- 01: "A small set is proved together as one table (*)"
 abbrev pub PlatesPrint : Type 0

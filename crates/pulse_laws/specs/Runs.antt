@@ -110,7 +110,3 @@ pub record Exactly (number : ℕ) (broken : Bool) (second : ℕ) (secondHolds : 
   pub next : (number ≡ second) ↔ ((broken ≡ false) × (secondHolds ≡ true))
   pub six : (number ≡ outsideRanges) ↔ ((broken ≡ false) × (secondHolds ≡ false) × (outside ≡ true))
   pub zero : (number ≡ notRefused) ↔ ((broken ≡ false) × (secondHolds ≡ false) × (outside ≡ false))
-
--- a contract that says that the outcome is this one allows no two
-abbrev pub Settles : {A : Type 0} → A → Type 0
-Settles {A} outcome = (x y : A) → x ≡ outcome → y ≡ outcome → x ≡ y

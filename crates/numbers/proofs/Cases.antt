@@ -1,4 +1,4 @@
--- Tests as facts, and cases on a test.
+-- Tests as facts, cases on a test, and one outcome.
 -- Assumes nothing.
 use Prim.Native.Nat.{ℕ, zero, suc, _<_}
 use native.Mathlib.Nat.{lt-irrefl}
@@ -7,6 +7,7 @@ use borrow.Author.Tests.{eqb-true, eqb-false}
 use lib.Dec.{eqb}
 use mathlib.Core.Bool.{Bool, true, false, cond, _&&_, _||_, false≢true, true≢false}
 use mathlib.Core.Path.{_≡_, refl, sym, _∙_}
+use Rattle.numbers.specs.Outcomes.{Settles}
 
 pub and-l : (a b : Bool) → (a && b) ≡ true → a ≡ true
 and-l true b e = refl
@@ -43,6 +44,10 @@ test false f g = g refl
 pub either : {A : Type 0} (P : A → Type 0) (b : Bool) (x y : A) → (b ≡ true → P x) → (b ≡ false → P y) → P (cond b x y)
 either P true x y f g = f refl
 either P false x y f g = g refl
+
+-- a promise that names the outcome allows no two
+pub settles : {A : Type 0} (outcome : A) → Settles (λ (x : A). x ≡ outcome)
+settles outcome x y p q = p ∙ sym q
 
 -- a test that holds and fails
 pub never : {G : Type 0} {b : Bool} → b ≡ true → b ≡ false → G
