@@ -63,7 +63,7 @@ Steady h x = Idle x × Stays h x
 
 module _ (d : Drive) (i : Idle d) (y : isReady d ≡ true) where
   in-report : (n : ℕ) → isOpen (d .report) ≡ true → Steady (d .head) (stepReport d n)
-  in-report n o = (in-report-idle d n o i, in-report-stays d n (i .0 .motion) y)
+  in-report n o = (in-report-idle d n o i, in-report-stays d n y)
 
   opening : (n : ℕ) → Steady (d .head) (Opens d n)
   opening n = either (Steady (d .head)) (isOpen (d .report)) _ _ (in-report n) (λ o. (open-report-idle d n i, open-stays d n))

@@ -1,7 +1,7 @@
--- While an error or the new mark stands, a still tape stays where it is under every train but 1.
+-- While an error or the new mark stands, no train but 1 starts the tape: the head stays as it was, or a run is stopped where it stands.
 -- Assumes nothing.
 use Prim.Native.Nat.{ℕ}
-use mathlib.Core.Bool.{true, false, not, _||_}
+use mathlib.Core.Bool.{true, false, not, _&&_, _||_}
 use mathlib.Core.Path.{_≡_, refl, ap}
 use borrow.Author.Tests.{ne-eqb, not-true}
 use Rattle.numbers.specs.Choice.{_<ᵇ_, _≡ᵇ_}
@@ -10,54 +10,63 @@ use Rattle.pulse_parts.specs.declared.arguments.Waiting.{Waiting}
 use Rattle.pulse_parts.specs.declared.arguments.Waiting.the-variants.{For, Nothing}
 use Rattle.pulse_parts.specs.declared.head.Head.{Head}
 use Rattle.pulse_parts.specs.declared.head.Motion.{Motion}
-use Rattle.pulse_parts.specs.declared.head.Motion.the-variants.{Still}
+use Rattle.pulse_parts.specs.declared.head.Motion.the-variants.{Load, Run, Still}
 use Rattle.pulse_parts.specs.Arguments.{isWaiting, needed}
-use Rattle.pulse_parts.specs.Codes.{ignored, isReport, reportError, reportNextBit, reportStatus, reportVendor, softReset, supported}
-use Rattle.pulse_parts.specs.Errors.{illegalInReport, newCartridgePending, undefinedCommand}
+use Rattle.pulse_parts.specs.Codes.{ignored, isReport, reportError, reportNextBit, reportStatus, reportVendor, softReset, stopsMotion, supported}
+use Rattle.pulse_parts.specs.Errors.{illegalInReport, newCartridgePending, notReady, undefinedCommand}
 use Rattle.pulse_parts.specs.Faults.{errorHeld}
-use Rattle.pulse_parts.specs.Heads.{isRun, isStill}
+use Rattle.pulse_parts.specs.Heads.{heldAt, isRun, isStill}
 use Rattle.pulse_parts.specs.Reports.{isOpen, noReport}
 use Rattle.pulse.specs.declared.calls.Step.{Step}
 use Rattle.pulse.specs.declared.drive.Drive.{Drive}
 use Rattle.pulse.specs.Commands.{checked, stepCommand}
 use Rattle.pulse.specs.Drives.{isReady, withLevel, withReport}
-use Rattle.pulse.specs.Motions.{latched}
+use Rattle.pulse.specs.Motions.{latched, stopped}
 use Rattle.pulse.specs.Reports.{errorRead, itemGiven, statusAsked, stepOpenReport, stepReport}
 use Rattle.pulse.specs.Rules.{isFree}
 use Rattle.pulse.specs.Train.{stepUnsupported, trainStep}
 use Rattle.pulse_laws.proofs.Calls.{train-by}
-use Rattle.pulse_laws.proofs.Rules.{Moves, Rules, Waits, loads, rests, runs, to-rules}
+use Rattle.pulse_laws.proofs.Rules.{Rules, Waits, to-rules}
 use Rattle.pulse_laws.specs.Demands.{OnlyResetStarts}
+use Rattle.pulse_laws.specs.Runs.{NotStarted, as-it-was, run-stopped}
+
+-- a drive whose head is h, or h stopped
+abbrev pub Kept : Head → Drive → Type 0
+Kept h x = NotStarted h (x .head)
+
+latch-kept : (d : Drive) (e n : ℕ) → Kept (d .head) (latched d e n)
+unfolding latched
+latch-kept d e n =
+    either (Kept (d .head)) (errorHeld (d .fault)) _ _ (λ p. as-it-was refl)
+    (λ p. either (Kept (d .head)) (isRun (d .head .motion)) _ _ (λ q. run-stopped q refl) (λ q. as-it-was refl))
+
+item-kept : (d : Drive) → Kept (d .head) (itemGiven d)
+unfolding itemGiven
+item-kept d = either (Kept (d .head)) (d .report .repeat) _ _ (λ e. as-it-was refl) (λ e. as-it-was refl)
+
+in-report-kept : (d : Drive) (n : ℕ) → Kept (d .head) (stepReport d n)
+unfolding stepReport
+in-report-kept d n =
+    either (Kept (d .head)) (n ≡ᵇ reportNextBit) _ _ (λ e. item-kept d)
+    (λ e.
+    either (Kept (d .head)) (ignored n) _ _ (λ f. as-it-was refl) (λ f. latch-kept (withLevel (withReport d noReport) false) illegalInReport n))
 
 -- the head stays
 abbrev pub Stays : Head → Drive → Type 0
 Stays h x = x .head ≡ h
 
--- a stop of a tape that stands changes nothing
-held-same : (s t k : ℕ) (m : Motion) → Moves m s t → isStill m ≡ true →
-    _≡_ {A = Head} record { place = s; target = s; track = k; motion = Still } record { place = s; target = t; track = k; motion = m }
-held-same s t k m (rests p e) f = rw (p, e)
-held-same s t k m (runs p n) f = never f (ap isStill p)
-held-same s t k m (loads p z n) f = never f (ap isStill p)
+-- a tape that stands still stays where it is
+still-stays : (h x : Head) → isStill (h .motion) ≡ true → NotStarted h x → x ≡ h
+still-stays h x y (as-it-was p) = p
+still-stays h x y (run-stopped r p) = by (h .motion) y r
+  where
+    by : {G : Type 0} (m : Motion) → isStill m ≡ true → isRun m ≡ true → G
+    by Still a b = never b refl
+    by Run a b = never a refl
+    by Load a b = never b refl
 
-latch-stays : (d : Drive) (e n : ℕ) → Moves (d .head .motion) (d .head .place) (d .head .target) → isReady d ≡ true → Stays (d .head) (latched d e n)
-unfolding latched
-latch-stays d e n m y =
-    either (Stays (d .head)) (errorHeld (d .fault)) _ _ (λ p. refl)
-    (λ p.
-    either (Stays (d .head)) (isRun (d .head .motion)) _ _
-    (λ q. held-same (d .head .place) (d .head .target) (d .head .track) (d .head .motion) m y) (λ q. refl))
-
-pub item-stays : (d : Drive) → Stays (d .head) (itemGiven d)
-unfolding itemGiven
-item-stays d = either (Stays (d .head)) (d .report .repeat) _ _ (λ e. refl) (λ e. refl)
-
-pub in-report-stays : (d : Drive) (n : ℕ) → Moves (d .head .motion) (d .head .place) (d .head .target) → isReady d ≡ true → Stays (d .head) (stepReport d n)
-unfolding stepReport
-in-report-stays d n m y =
-    either (Stays (d .head)) (n ≡ᵇ reportNextBit) _ _ (λ e. item-stays d)
-    (λ e.
-    either (Stays (d .head)) (ignored n) _ _ (λ f. refl) (λ f. latch-stays (withLevel (withReport d noReport) false) illegalInReport n m y))
+pub in-report-stays : (d : Drive) (n : ℕ) → isReady d ≡ true → Stays (d .head) (stepReport d n)
+in-report-stays d n y = still-stays (d .head) (stepReport d n .head) y (in-report-kept d n)
 
 pub open-stays : (d : Drive) (n : ℕ) → Stays (d .head) (stepOpenReport d n)
 unfolding stepOpenReport statusAsked errorRead
@@ -66,7 +75,18 @@ open-stays d n =
     (λ e.
     either (Stays (d .head)) (n ≡ᵇ reportError) _ _ (λ f. either (Stays (d .head)) (isReady d) _ _ (λ g. refl) (λ g. refl)) (λ f. refl))
 
-module _ (d : Drive) (r : Rules d) (y : isReady d ≡ true) (s : (errorHeld (d .fault) || d .marks .fresh) ≡ true) where
+-- what keeps the head of a run that was stopped has stopped the run
+after-stop : (h x : Head) → isRun (h .motion) ≡ true → NotStarted (heldAt h) x → NotStarted h x
+after-stop h x r (as-it-was p) = run-stopped r p
+after-stop h x r (run-stopped q p) = never q refl
+
+check-kept : (d : Drive) (n : ℕ) → (errorHeld (d .fault) || d .marks .fresh) ≡ true → Kept (d .head) (checked d n)
+unfolding checked
+check-kept d n s =
+    either (Kept (d .head)) (errorHeld (d .fault)) _ _ (λ e. as-it-was refl)
+    (λ e. either (Kept (d .head)) (d .marks .fresh) _ _ (λ f. latch-kept d newCartridgePending n) (λ f. never s (rw (e, f))))
+
+module _ (d : Drive) (r : Rules d) (s : (errorHeld (d .fault) || d .marks .fresh) ≡ true) where
   -- no argument is waited for
   no-argument : isWaiting (d .waiting) ≡ true → ⊥
   no-argument e = by (d .waiting) refl
@@ -79,24 +99,27 @@ module _ (d : Drive) (r : Rules d) (y : isReady d ≡ true) (s : (errorHeld (d .
           or-by (errorHeld (d .fault)) (d .marks .fresh) s (λ h. never h (not-true (errorHeld (d .fault)) (search ands)))
           (λ h. never h (not-true (d .marks .fresh) (search ands)))
 
-  check-stays : (n : ℕ) → Stays (d .head) (checked d n)
-  unfolding checked
-  check-stays n =
-      either (Stays (d .head)) (errorHeld (d .fault)) _ _ (λ e. refl)
-      (λ e. either (Stays (d .head)) (d .marks .fresh) _ _ (λ f. latch-stays d newCartridgePending n (r .0 .motion) y) (λ f. never s (rw (e, f))))
+  command-kept : (n : ℕ) → Kept (d .head) (stepCommand d n)
+  unfolding stepCommand
+  command-kept n =
+      either (Kept (d .head)) (isReady d) _ _ (λ y. check-kept d n s)
+      (λ y. either (Kept (d .head)) (isRun (d .head .motion) && stopsMotion n) _ _
+      (λ f. after-stop (d .head) (checked (stopped d) n .head) (and-l (isRun (d .head .motion)) (stopsMotion n) f)
+      (check-kept (stopped d) n s))
+      (λ f. latch-kept d notReady n))
 
-  train-stays : (n : ℕ) → (n ≡ᵇ softReset) ≡ false → Stays (d .head) (trainStep d n)
-  unfolding trainStep stepUnsupported stepCommand
-  train-stays n k =
+  train-kept : (n : ℕ) → (n ≡ᵇ softReset) ≡ false → Kept (d .head) (trainStep d n)
+  unfolding trainStep stepUnsupported
+  train-kept n k =
       rw k
-      (either (Stays (d .head)) (isWaiting (d .waiting)) _ _ (λ e. absurd (no-argument e))
-      (λ e. either (Stays (d .head)) (isOpen (d .report)) _ _ (λ o. in-report-stays d n (r .0 .motion) y)
-      (λ o. either (Stays (d .head)) (n ≡ᵇ reportNextBit) _ _ (λ f. refl)
-      (λ f. either (Stays (d .head)) (not (supported n)) _ _
-      (λ p. either (Stays (d .head)) (n <ᵇ reportVendor) _ _ (λ q. latch-stays d undefinedCommand n (r .0 .motion) y) (λ q. refl))
-      (λ p. either (Stays (d .head)) (isReport n) _ _ (λ q. open-stays d n) (λ q. rw y (check-stays n)))))))
+      (either (Kept (d .head)) (isWaiting (d .waiting)) _ _ (λ e. absurd (no-argument e))
+      (λ e. either (Kept (d .head)) (isOpen (d .report)) _ _ (λ o. in-report-kept d n)
+      (λ o. either (Kept (d .head)) (n ≡ᵇ reportNextBit) _ _ (λ f. as-it-was refl)
+      (λ f. either (Kept (d .head)) (not (supported n)) _ _
+      (λ p. either (Kept (d .head)) (n <ᵇ reportVendor) _ _ (λ q. latch-kept d undefinedCommand n) (λ q. as-it-was refl))
+      (λ p. either (Kept (d .head)) (isReport n) _ _ (λ q. as-it-was (open-stays d n)) (λ q. command-kept n))))))
 
 pub only-reset-starts : OnlyResetStarts
-only-reset-starts d n e y s k =
-    train-by (λ (x : Step). Stays (d .head) (x .drive)) d (λ p. refl) n (λ p z. refl)
-    (λ p z. train-stays d (to-rules d e) y s n (ne-eqb n softReset k))
+only-reset-starts d n e s k =
+    train-by (λ (x : Step). Kept (d .head) (x .drive)) d (λ p. as-it-was refl) n (λ p z. as-it-was refl)
+    (λ p z. train-kept d (to-rules d e) s n (ne-eqb n softReset k))

@@ -19,7 +19,7 @@ use Rattle.pulse.specs.Calls.{alreadySo, emptyTrain, insertCall, notRefused, re
 use Rattle.pulse.specs.Drives.{isReady, powerOn}
 use Rattle.pulse.specs.Rules.{keepsRules}
 use Rattle.pulse_laws.specs.Plates.{allPrint, plates}
-use Rattle.pulse_laws.specs.Runs.{Exactly, KeepsIfRefused, Reachable, afterTicks, afterTrains, answers, beforeErrorReport, distance, namesLevel, outsideItsRanges, placeAfter, recoveryTrains, silentTicks, spelled}
+use Rattle.pulse_laws.specs.Runs.{Exactly, KeepsIfRefused, NotStarted, Reachable, afterTicks, afterTrains, answers, beforeErrorReport, distance, namesLevel, outsideItsRanges, placeAfter, recoveryTrains, silentTicks, spelled}
 
 -- 01: "Every record that power-on or a call gives keeps the record rules."
 pub record RulesKept : Type 0 where
@@ -95,11 +95,11 @@ Recovers =
     (d : Drive) → Reachable d → d .marks .inside ≡ true →
     Recovered d (afterTicks (silentTicks d) d) (afterTrains (afterTicks (silentTicks d) d) recoveryTrains)
 
--- "While an error or that mark stands, no train but soft reset starts the tape."
+-- "While an error or that mark stands, no train but soft reset starts the tape.": moving or not, a load goes on to 0 and nothing else begins
 abbrev pub OnlyResetStarts : Type 0
 OnlyResetStarts =
-    (d : Drive) (n : ℕ) → keepsRules d ≡ true → isReady d ≡ true → (errorHeld (d .fault) || d .marks .fresh) ≡ true → n ≢ softReset →
-    trainCall d n .drive .head ≡ d .head
+    (d : Drive) (n : ℕ) → keepsRules d ≡ true → (errorHeld (d .fault) || d .marks .fresh) ≡ true → n ≢ softReset →
+    NotStarted (d .head) (trainCall d n .drive .head)
 
 -- 01: "Prove that any two outcomes allowed by it coincide"
 pub record Settled : Type 0 where

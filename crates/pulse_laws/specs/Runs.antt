@@ -9,8 +9,10 @@ use lib.ListN.{replicate}
 use Rattle.numbers.specs.Choice.{_≡ᵇ_, _≤ᵇ_, if_then_else_}
 use Rattle.pulse_parts.specs.declared.cartridge.Cartridge.{Cartridge}
 use Rattle.pulse_parts.specs.declared.fault.Fault.{Fault}
+use Rattle.pulse_parts.specs.declared.head.Head.{Head}
 use Rattle.pulse_parts.specs.Arguments.{isWaiting}
 use Rattle.pulse_parts.specs.Codes.{ignored, isReport, reportError, reportNextBit, reportStatus, softReset}
+use Rattle.pulse_parts.specs.Heads.{heldAt, isRun}
 use Rattle.pulse_parts.specs.Reports.{isOpen}
 use Rattle.pulse.specs.declared.calls.Step.{Step}
 use Rattle.pulse.specs.declared.drive.Drive.{Drive}
@@ -95,6 +97,11 @@ abbrev pub namesLevel : Drive → ℕ → Bool
 namesLevel d n =
     not (n ≡ᵇ softReset) && not (isWaiting (d .waiting))
     && (if isOpen (d .report) then not (ignored n) else (n ≡ᵇ reportNextBit) || isReport n)
+
+-- what a train that starts nothing leaves of a head: place, target, track and motion as they were, or a run that is stopped where it stands
+pub data NotStarted (before after : Head) : Type 0 where
+  as-it-was : after ≡ before → NotStarted before after
+  run-stopped : isRun (before .motion) ≡ true → after ≡ heldAt before → NotStarted before after
 
 -- a refusal answers level 0 and alters nothing
 abbrev pub KeepsIfRefused : Drive → Step → Type 0
