@@ -3,15 +3,15 @@
 use mathlib.Core.Path.{_≡_, refl, _∙_, ap}
 use mathlib.Core.List.{List, [], _∷_, map}
 use Prim.Native.Nat.{ℕ, zero, suc}
+use native.Mathlib.Nat.{le-refl}
 use Rattle.pulse.specs.declared.drive.Drive.{Drive}
-use Rattle.pulse.specs.Calls.{tickCall}
-use Rattle.pulse_laws.specs.Runs.{afterTicks, afterTrains, answers, recoveryTrains, silentTicks}
-use Rattle.pulse_laws.proofs.Recovery.{recovers-by-rules}
-use Rattle.pulse_laws.proofs.Rules.{to-rules}
+use Rattle.pulse.specs.Calls.{tickCall, trainCall}
+use Rattle.pulse_laws.specs.Runs.{afterPaced, afterTicks, pacedAnswers, recoveryTrains, silentTicks}
+use Rattle.pulse_laws.proofs.Recovery.{no-pauses, recovers-at-any-pace}
 use Rattle.pulse_record.specs.PulseRecord.{decodeDrive}
 use Rattle.tapecard.specs.PulseCalls.{pulseLeft, pulseTrain}
-use Rattle.card_laws.specs.Promises.{Bytes, CardRecovers}
-use Rattle.card_laws.specs.Sessions.{answersOn, ticksOn, told, trainsOn}
+use Rattle.card_laws.specs.Promises.{Bytes, CardRecovers, CardRecoversAtAnyPace}
+use Rattle.card_laws.specs.Sessions.{answersOn, pacedAnswersOn, pacedOn, ticksOn, told, trainsOn}
 use Rattle.card_laws.proofs.PulseFollowing.{pulse-follows, stays-bytes}
 
 ticks-bytes : (k : ℕ) (state : List ℕ) → Bytes state → Bytes (ticksOn k state)
@@ -25,26 +25,51 @@ ticks-follow zero state b = refl
 ticks-follow (suc k) state b =
     pulse-follows .tick (ticksOn k state) (ticks-bytes k state b) ∙ ap (λ (x : Drive). tickCall x .drive) (ticks-follow k state b)
 
-trains-follow : (ns state : List ℕ) → Bytes state → decodeDrive (trainsOn state ns) ≡ afterTrains (decodeDrive state) ns
-unfolding trainsOn afterTrains
-trains-follow [] state b = refl
-trains-follow (n ∷ ns) state b =
-    trains-follow ns (pulseTrain state n .state) (stays-bytes .train state n b) ∙ ap (λ (x : Drive). afterTrains x ns) (pulse-follows .train state n b)
+paced-follow : (pauses : ℕ → ℕ) (ns state : List ℕ) → Bytes state
+    → decodeDrive (pacedOn pauses state ns) ≡ afterPaced pauses (decodeDrive state) ns
+unfolding pacedOn afterPaced
+paced-follow pauses [] state b = refl
+paced-follow pauses (n ∷ ns) state b =
+    let rested = ticksOn (pauses 0) state in
+    let c = ticks-bytes (pauses 0) state b in
+    paced-follow (λ i. pauses (suc i)) ns (pulseTrain rested n .state) (stays-bytes .train rested n c)
+    ∙ ap (λ (x : Drive). afterPaced (λ i. pauses (suc i)) x ns)
+    (pulse-follows .train rested n c ∙ ap (λ (x : Drive). trainCall x n .drive) (ticks-follow (pauses 0) state b))
 
-answers-follow : (ns state : List ℕ) → Bytes state → answersOn state ns ≡ map told (answers (decodeDrive state) ns)
-unfolding answersOn answers pulseTrain pulseLeft
-answers-follow [] state b = refl
-answers-follow (n ∷ ns) state b =
-    rw (answers-follow ns (pulseTrain state n .state) (stays-bytes .train state n b), pulse-follows .train state n b)
+answers-follow : (pauses : ℕ → ℕ) (ns state : List ℕ) → Bytes state
+    → pacedAnswersOn pauses state ns ≡ map told (pacedAnswers pauses (decodeDrive state) ns)
+unfolding pacedAnswersOn pacedAnswers pulseTrain pulseLeft
+answers-follow pauses [] state b = refl
+answers-follow pauses (n ∷ ns) state b =
+    let rested = ticksOn (pauses 0) state in
+    let c = ticks-bytes (pauses 0) state b in
+    let ih = answers-follow (λ i. pauses (suc i)) ns (pulseTrain rested n .state) (stays-bytes .train rested n c) in
+    rw (ih, pulse-follows .train rested n c, ticks-follow (pauses 0) state b)
+
+pub card-recovers-at-any-pace : CardRecoversAtAnyPace
+card-recovers-at-any-pace state k pauses b rules inside l =
+    let rested = ticksOn k state in
+    let c = ticks-bytes k state b in
+    let x = recovers-at-any-pace .paced (decodeDrive state) k pauses rules inside l in
+    record {
+      drive = rw (paced-follow pauses recoveryTrains rested c, ticks-follow k state b) x;
+      answered = answers-follow pauses recoveryTrains rested c;
+    }
+
+-- ---- without a pause
+
+no-pauses-on : (state ns : List ℕ) → (pacedOn (λ i. 0) state ns ≡ trainsOn state ns) × (pacedAnswersOn (λ i. 0) state ns ≡ answersOn state ns)
+unfolding pacedOn trainsOn pacedAnswersOn answersOn ticksOn
+no-pauses-on state [] = (refl, refl)
+no-pauses-on state (n ∷ ns) =
+    let r = no-pauses-on (pulseTrain state n .state) ns in
+    (r .0, ap (λ (l : List (List ℕ)). pulseTrain state n .answer ∷ l) (r .1))
 
 pub card-recovers : CardRecovers
 card-recovers state b rules inside =
-    let d = decodeDrive state in
-    let k = silentTicks d in
+    let k = silentTicks (decodeDrive state) in
     let rested = ticksOn k state in
-    let t = ticks-follow k state b in
-    let u = trains-follow recoveryTrains rested (ticks-bytes k state b) in
-    record {
-      drive = rw (u, t) (recovers-by-rules d (to-rules d rules) inside);
-      answered = answers-follow recoveryTrains rested (ticks-bytes k state b);
-    }
+    let x = card-recovers-at-any-pace state k (λ i. 0) b rules inside (le-refl k) in
+    let p = no-pauses-on rested recoveryTrains in
+    let q = no-pauses (decodeDrive rested) recoveryTrains in
+    record { drive = rw (← p .0, ← q .0) (x .drive); answered = rw (← p .1, ← q .0) (x .answered) }

@@ -3,7 +3,7 @@
 use mathlib.Core.Path.{_≡_}
 use mathlib.Core.Bool.{true}
 use mathlib.Core.List.{List, map}
-use Prim.Native.Nat.{ℕ, _^_, _<_}
+use Prim.Native.Nat.{ℕ, _^_, _<_, _≤_}
 use lib.ListN.{getD}
 use Rattle.stream_parts.specs.declared.state.State.{State}
 use Rattle.pulse_parts.specs.declared.arguments.Waiting.{Waiting}
@@ -12,9 +12,9 @@ use Rattle.pulse.specs.declared.drive.Drive.{Drive}
 use Rattle.pulse.specs.Calls.{trainCall, tickCall, insertCall, removeCall, waitCall}
 use Rattle.pulse.specs.Drives.{powerOn}
 use Rattle.pulse.specs.Rules.{keepsRules}
-use Rattle.pulse_laws.specs.Demands.{Recovered}
-use Rattle.pulse_laws.specs.Runs.{answers, recoveryTrains, silentTicks}
-use Rattle.card_laws.specs.Sessions.{answersOn, ticksOn, told, trainsOn}
+use Rattle.pulse_laws.specs.Demands.{Recovered, Regained}
+use Rattle.pulse_laws.specs.Runs.{answers, pacedAnswers, recoveryTrains, silentTicks}
+use Rattle.card_laws.specs.Sessions.{answersOn, pacedAnswersOn, pacedOn, ticksOn, told, trainsOn}
 use Rattle.stream_parts.specs.States.{freshState, changedState}
 use Rattle.stream.specs.Packet.{packetStep}
 use Rattle.stream_laws.specs.Words.{stateOf, blocksOf, bytesOf}
@@ -131,6 +131,17 @@ CardRecovers =
     (state : List ℕ) → Bytes state → keepsRules (decodeDrive state) ≡ true → decodeDrive state .marks .inside ≡ true
     → BytesRecovered state (ticksOn (silentTicks (decodeDrive state)) state)
     (trainsOn (ticksOn (silentTicks (decodeDrive state)) state) recoveryTrains)
+
+-- the same at any pace: any number of tick calls from G up, and any number before each train
+pub record BytesRegained (pauses : ℕ → ℕ) (before rested last : List ℕ) : Type 0 where
+  pub drive : Regained (pacedAnswers pauses (decodeDrive rested) recoveryTrains) (decodeDrive before) (decodeDrive rested) (decodeDrive last)
+  pub answered : pacedAnswersOn pauses rested recoveryTrains ≡ map told (pacedAnswers pauses (decodeDrive rested) recoveryTrains)
+
+abbrev pub CardRecoversAtAnyPace : Type 0
+CardRecoversAtAnyPace =
+    (state : List ℕ) (k : ℕ) (pauses : ℕ → ℕ) → Bytes state
+    → keepsRules (decodeDrive state) ≡ true → decodeDrive state .marks .inside ≡ true → silentTicks (decodeDrive state) ≤ k
+    → BytesRegained pauses state (ticksOn k state) (pacedOn pauses (ticksOn k state) recoveryTrains)
 
 -- and no count of an answer is cut: "4-7 blocks; 8-11 bytes" of a packet, "4-7 ticks" of a wait
 

@@ -21,6 +21,17 @@ unfoldable pub answersOn : List ℕ → List ℕ → List (List ℕ)
 answersOn state [] = []
 answersOn state (n ∷ ns) = pulseTrain state n .answer ∷ answersOn (pulseTrain state n .state) ns
 
+-- the record after trains that are sent at any pace: `pauses 0` ticks before the first, `pauses 1` before the second, and so on
+unfoldable pub pacedOn : (ℕ → ℕ) → List ℕ → List ℕ → List ℕ
+pacedOn pauses state [] = state
+pacedOn pauses state (n ∷ ns) = pacedOn (λ i. pauses (suc i)) (pulseTrain (ticksOn (pauses 0) state) n .state) ns
+
+-- the answers to them
+unfoldable pub pacedAnswersOn : (ℕ → ℕ) → List ℕ → List ℕ → List (List ℕ)
+pacedAnswersOn pauses state [] = []
+pacedAnswersOn pauses state (n ∷ ns) =
+    pulseTrain (ticksOn (pauses 0) state) n .answer ∷ pacedAnswersOn (λ i. pauses (suc i)) (pulseTrain (ticksOn (pauses 0) state) n .state) ns
+
 -- the eight bytes of a train's answer
 abbrev pub told : Step → List ℕ
 told x = encodeTold (x .number) (x .level) 0

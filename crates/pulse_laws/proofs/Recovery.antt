@@ -1,7 +1,7 @@
 -- Recovery: the silent ticks, eighteen 2s, a 6 and nine 2s, a 7 and seventeen 2s.
 -- Assumes nothing.
 use Prim.Native.Nat.{ℕ, zero, suc, _≤_}
-use native.Mathlib.Nat.{lt-irrefl}
+use native.Mathlib.Nat.{le-refl, lt-irrefl}
 use native.Mathlib.Omega.{arith}
 use mathlib.Core.Bool.{Bool, true, false, and-false}
 use mathlib.Core.List.{List, [], _∷_, _++_, map}
@@ -9,7 +9,7 @@ use mathlib.Core.Path.{_≡_, refl, sym, _∙_, ap}
 use borrow.Author.Tests.{leb-true, le-ltb}
 use lib.ListN.{length}
 use Rattle.numbers.specs.Choice.{_≡ᵇ_, _≤ᵇ_}
-use Rattle.numbers.proofs.Cases.{ands, either, test}
+use Rattle.numbers.proofs.Cases.{and-l, and-r, ands, either, test}
 use Rattle.pulse_parts.specs.declared.arguments.Waiting.the-variants.{Nothing}
 use Rattle.pulse_parts.specs.declared.fault.Fault.{Fault}
 use Rattle.pulse_parts.specs.declared.marks.Marks.{Marks}
@@ -20,21 +20,25 @@ use Rattle.pulse_parts.specs.Heads.{toward}
 use Rattle.pulse_parts.specs.Reports.{errorBits, isOpen, mostItems, reportOf16}
 use Rattle.pulse.specs.declared.calls.Step.{Step}
 use Rattle.pulse.specs.declared.drive.Drive.{Drive}
-use Rattle.pulse.specs.Drives.{isReady, withHead, withoutArguments}
+use Rattle.pulse.specs.Calls.{accepted, trainCall}
+use Rattle.pulse.specs.Drives.{isReady, withHead, withWaiting, withoutArguments}
 use Rattle.pulse.specs.Events.{runFor}
 use Rattle.pulse.specs.Motions.{arrived, ticked}
 use Rattle.pulse.specs.Reports.{errorRead, reportOf, statusAsked, stepOpenReport}
+use Rattle.pulse.specs.Rules.{maxSegments}
 use Rattle.pulse.specs.Train.{trainStep}
-use Rattle.pulse_laws.proofs.Idle.{Idle}
+use Rattle.pulse_laws.proofs.Idle.{Idle, idle-rules}
 use Rattle.pulse_laws.proofs.Kept.{reachable-keeps}
 use Rattle.pulse_laws.proofs.Motion.{ended, nearer, within}
-use Rattle.pulse_laws.proofs.Reading.{Paid, Steady, Stood, after-append, after-cons, answers-cons, answers-drop, owed, paid, read-out, seven-is, six-is, still-ready, stood, train-steady}
+use Rattle.pulse_laws.proofs.Reading.{Paid, Steady, Stood, allRead, owed, paid, read-out, reads, stood, train-steady}
+use Rattle.pulse_laws.proofs.Reading.{after-append, after-cons, answers-cons, answers-drop, call-is, seven-is, six-is, still-ready}
 use Rattle.pulse_laws.proofs.Reports.{few}
 use Rattle.pulse_laws.proofs.Rules.{Rules, to-rules}
 use Rattle.pulse_laws.proofs.Ticks.{ready-after, ticks-run}
 use Rattle.pulse_laws.proofs.Trains.{run-rules, ticked-waiting}
-use Rattle.pulse_laws.specs.Demands.{Recovered, Recovers}
-use Rattle.pulse_laws.specs.Runs.{afterTicks, afterTrains, answers, beforeErrorReport, bitsOf, closing, distance, errorItems, errorReport, nextBits, recoveryTrains, silentTicks, spelled, statusItems}
+use Rattle.pulse_laws.specs.Demands.{Recovered, Recovers, RecoversAtAnyPace, Regained}
+use Rattle.pulse_laws.specs.Runs.{afterPaced, afterTicks, afterTrains, answers, distance, pacedAnswers, silentTicks}
+use Rattle.pulse_laws.specs.Runs.{beforeErrorReport, bitsOf, closing, errorItems, errorReport, nextBits, recoveryTrains, spelled, statusItems}
 
 -- ---- the silent ticks
 -- a tick leaves the error as it is
@@ -183,6 +187,40 @@ recover before d f i y l =
     r : Read (afterTrains d beforeErrorReport) (afterTrains (afterTrains d beforeErrorReport) errorReport)
     r = read (afterTrains d beforeErrorReport) (k .idle) ky (k .shut) (k .asked)
 
+-- ---- at any pace: a tick does nothing to a drive that stands and waits for no argument
+tick-nothing : (d : Drive) → Idle d → isReady d ≡ true → ticked d ≡ d
+unfolding ticked
+tick-nothing d i y = rw y (ap (withWaiting d) (sym (i .1)))
+
+run-nothing : (k : ℕ) (d : Drive) → Idle d → isReady d ≡ true → runFor k d ≡ d
+unfolding runFor
+run-nothing zero d i y = refl
+run-nothing (suc k) d i y = ap ticked (run-nothing k d i y) ∙ tick-nothing d i y
+
+pause-nothing : (k : ℕ) (d : Drive) → Idle d → isReady d ≡ true → afterTicks k d ≡ d
+pause-nothing k d i y = ticks-run k d (idle-rules d i) ∙ run-nothing k d i y
+
+-- the same answers, and the same drive, as without a pause
+abbrev Unpaced : (ℕ → ℕ) → Drive → List ℕ → Type 0
+Unpaced pauses d ns = (pacedAnswers pauses d ns ≡ answers d ns) × (afterPaced pauses d ns ≡ afterTrains d ns)
+
+at-any-pace : (pauses : ℕ → ℕ) (d : Drive) (ns : List ℕ) → Idle d → isReady d ≡ true → allRead ns ≡ true → Unpaced pauses d ns
+unfolding pacedAnswers afterPaced answers afterTrains
+at-any-pace pauses d [] i y a = (refl, refl)
+at-any-pace pauses d (n ∷ ns) i y a =
+    let e = and-l (reads n) (allRead ns) a in
+    let t = train-steady d i y n e in
+    let s = still-ready (d .head) (trainStep d n .head) (t .1) y in
+    let r = at-any-pace (λ j. pauses (suc j)) (trainStep d n) ns (t .0) s (and-r (reads n) (allRead ns) a) in
+    rw (pause-nothing (pauses 0) d i y, call-is d i y n e) (ap (λ (l : List Step). accepted (trainStep d n) ∷ l) (r .0), r .1)
+
+pub no-pauses : (d : Drive) (ns : List ℕ) → Unpaced (λ i. 0) d ns
+unfolding pacedAnswers afterPaced answers afterTrains afterTicks
+no-pauses d [] = (refl, refl)
+no-pauses d (n ∷ ns) =
+    let r = no-pauses (trainCall d n .drive) ns in
+    (ap (λ (l : List Step). trainCall d n ∷ l) (r .0), r .1)
+
 -- ---- from any drive that keeps the rules, with a cartridge in
 run-waiting : (k : ℕ) (d : Drive) → 1 ≤ k → runFor k d .waiting ≡ Nothing
 unfolding runFor
@@ -197,16 +235,37 @@ few-owed : (r : Report) → r .left ≤ mostItems → owed r ≤ closing
 unfolding owed
 few-owed r l = test (r .repeat) (λ e. rw e (omega arith)) (λ e. rw e (omega arith))
 
-pub recovers-by-rules : (d : Drive) → Rules d → d .marks .inside ≡ true →
-    Recovered d (afterTicks (silentTicks d) d) (afterTrains (afterTicks (silentTicks d) d) recoveryTrains)
-recovers-by-rules d r inside =
-    let g = silentTicks d in
-    let w = within (r .0 .cart) inside in
-    let a = w .ranges in
-    let b : (1 ≤ᵇ g) ≡ true = search ands depth 8 in
-    let i : Idle (runFor g d) = (run-rules g d r .0, run-waiting g d (leb-true 1 g b)) in
-    let y = ready-after g d r (near-enough d (w .place) (w .target)) in
-    rw (ticks-run g d r) (recover d (runFor g d) (sym (run-holds g d)) i y (few-owed (runFor g d .report) (few (runFor g d .report) (i .0 .report))))
+module _ (d : Drive) (k : ℕ) (pauses : ℕ → ℕ) (r : Rules d) (inside : d .marks .inside ≡ true) (l : silentTicks d ≤ k) where
+  rested-idle : Idle (runFor k d)
+  rested-idle =
+      let a = within (r .0 .cart) inside .ranges in
+      let b : (1 ≤ᵇ silentTicks d) ≡ true = search ands depth 8 in
+      (run-rules k d r .0, run-waiting k d (omega (arith, leb-true 1 (silentTicks d) b)))
+
+  rested-ready : isReady (runFor k d) ≡ true
+  rested-ready =
+      let w = within (r .0 .cart) inside in
+      ready-after k d r (omega (arith, near-enough d (w .place) (w .target)))
+
+  by-rules : Regained (pacedAnswers pauses (afterTicks k d) recoveryTrains) d (afterTicks k d) (afterPaced pauses (afterTicks k d) recoveryTrains)
+  by-rules =
+      let i = rested-idle in
+      let y = rested-ready in
+      let p = at-any-pace pauses (runFor k d) recoveryTrains i y refl in
+      rw (ticks-run k d r, p .0, p .1)
+      (recover d (runFor k d) (sym (run-holds k d)) i y (few-owed (runFor k d .report) (few (runFor k d .report) (i .0 .report))))
+
+pub recovers-at-any-pace : RecoversAtAnyPace
+recovers-at-any-pace =
+    record {
+      paced = λ d k pauses rules. by-rules d k pauses (to-rules d rules);
+      enough = λ d rules inside.
+          let a = within (to-rules d rules .0 .cart) inside .ranges in
+          leb-true (silentTicks d) maxSegments (search ands depth 8);
+    }
 
 pub recovers : Recovers
-recovers d r inside = recovers-by-rules d (to-rules d (reachable-keeps r)) inside
+recovers d r inside =
+    let x = afterTicks (silentTicks d) d in
+    let p = no-pauses x recoveryTrains in
+    rw (← p .0, ← p .1) (recovers-at-any-pace .paced d (silentTicks d) (λ i. 0) (reachable-keeps r) inside (le-refl (silentTicks d)))

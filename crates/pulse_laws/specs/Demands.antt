@@ -1,8 +1,8 @@
 -- What is demanded of the pulse drive: each demand is one type, proved under the same name in proofs/.
 -- Assumes nothing.
-use Prim.Native.Nat.{ℕ, _-_, min}
+use Prim.Native.Nat.{ℕ, _-_, _≤_, min}
 use mathlib.Core.Bool.{true, false, not, _||_}
-use mathlib.Core.List.{map}
+use mathlib.Core.List.{List, map}
 use mathlib.Core.Logic.{_≢_}
 use mathlib.Core.Path.{_≡_}
 use lib.ListN.{drop, length, replicate}
@@ -17,9 +17,11 @@ use Rattle.pulse.specs.declared.calls.Waited.{Waited}
 use Rattle.pulse.specs.declared.drive.Drive.{Drive}
 use Rattle.pulse.specs.Calls.{alreadySo, emptyTrain, insertCall, notRefused, removeCall, tickCall, trainCall, waitCall}
 use Rattle.pulse.specs.Drives.{isReady, powerOn}
-use Rattle.pulse.specs.Rules.{keepsRules}
+use Rattle.pulse.specs.Rules.{keepsRules, maxSegments}
 use Rattle.pulse_laws.specs.Plates.{allPrint, plates}
-use Rattle.pulse_laws.specs.Runs.{Exactly, KeepsIfRefused, NotStarted, Reachable, afterTicks, afterTrains, answers, beforeErrorReport, distance, namesLevel, outsideItsRanges, placeAfter, recoveryTrains, silentTicks, spelled}
+use Rattle.pulse_laws.specs.Runs.{Exactly, KeepsIfRefused, NotStarted, Reachable, namesLevel, outsideItsRanges}
+use Rattle.pulse_laws.specs.Runs.{afterPaced, afterTicks, afterTrains, answers, distance, pacedAnswers, placeAfter}
+use Rattle.pulse_laws.specs.Runs.{beforeErrorReport, recoveryTrains, silentTicks, spelled}
 
 -- 01: "Every record that power-on or a call gives keeps the record rules."
 pub record RulesKept : Type 0 where
@@ -78,16 +80,27 @@ pub record LevelKept : Type 0 where
   pub wait : (d : Drive) (limit : ℕ) → waitCall d limit .drive .level ≡ d .level
 
 -- "the 46 recovery trains leave the drive ready, with no error, no new mark and no open report; their bits name the error that was held;
--- the tape stands still": after each of the trains, and at the end
-pub record Recovered (before rested last : Drive) : Type 0 where
-  pub answered : map (λ (s : Step). s .number) (answers rested recoveryTrains) ≡ replicate 46 notRefused
+-- the tape stands still": after each of the trains, and at the end; `told` are their answers
+pub record Regained (told : List Step) (before rested last : Drive) : Type 0 where
+  pub answered : map (λ (s : Step). s .number) told ≡ replicate 46 notRefused
   pub ready : isReady last ≡ true
   pub errorless : last .fault .error ≡ noError
   pub known : last .marks .fresh ≡ false
   pub closed : last .report .left ≡ 0
-  pub named : map (λ (s : Step). s .level) (drop (length beforeErrorReport) (answers rested recoveryTrains)) ≡ spelled (before .fault)
-  pub stood : map (λ (s : Step). s .drive .head) (answers rested recoveryTrains) ≡ replicate 46 (rested .head)
+  pub named : map (λ (s : Step). s .level) (drop (length beforeErrorReport) told) ≡ spelled (before .fault)
+  pub stood : map (λ (s : Step). s .drive .head) told ≡ replicate 46 (rested .head)
   pub stands : last .head ≡ rested .head
+
+-- a workstation that has lost its place may not know G, and 46 trains take time: any number of silent ticks from G up, and any number before each train
+pub record RecoversAtAnyPace : Type 0 where
+  pub paced : (d : Drive) (k : ℕ) (pauses : ℕ → ℕ) → keepsRules d ≡ true → d .marks .inside ≡ true → silentTicks d ≤ k →
+      Regained (pacedAnswers pauses (afterTicks k d) recoveryTrains) d (afterTicks k d) (afterPaced pauses (afterTicks k d) recoveryTrains)
+  -- so that 4,095 always do
+  pub enough : (d : Drive) → keepsRules d ≡ true → d .marks .inside ≡ true → silentTicks d ≤ maxSegments
+
+-- the trains sent without a pause
+abbrev pub Recovered : Drive → Drive → Drive → Type 0
+Recovered before rested last = Regained (answers rested recoveryTrains) before rested last
 
 -- "From any reachable pulse state with a cartridge in: after as many silent ticks as a track has segments, the 46 recovery trains .."
 abbrev pub Recovers : Type 0

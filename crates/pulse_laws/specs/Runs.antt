@@ -44,6 +44,17 @@ unfoldable pub afterTrains : Drive → List ℕ → Drive
 afterTrains d [] = d
 afterTrains d (n ∷ ns) = afterTrains (trainCall d n .drive) ns
 
+-- the answers to trains that are sent at any pace: `pauses 0` ticks before the first, `pauses 1` before the second, and so on
+unfoldable pub pacedAnswers : (ℕ → ℕ) → Drive → List ℕ → List Step
+pacedAnswers pauses d [] = []
+pacedAnswers pauses d (n ∷ ns) =
+    trainCall (afterTicks (pauses 0) d) n ∷ pacedAnswers (λ i. pauses (suc i)) (trainCall (afterTicks (pauses 0) d) n .drive) ns
+
+-- the drive after them
+unfoldable pub afterPaced : (ℕ → ℕ) → Drive → List ℕ → Drive
+afterPaced pauses d [] = d
+afterPaced pauses d (n ∷ ns) = afterPaced (λ i. pauses (suc i)) (trainCall (afterTicks (pauses 0) d) n .drive) ns
+
 -- so many 2s
 abbrev pub nextBits : ℕ → List ℕ
 nextBits k = replicate k reportNextBit
