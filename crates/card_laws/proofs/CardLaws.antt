@@ -5,16 +5,17 @@ use mathlib.Core.Bool.{Bool}
 use mathlib.Core.List.{List}
 use Prim.Native.Nat.{ℕ}
 use borrow.Author.Tests.{ne-eqb}
-use Rattle.numbers.proofs.Cases.{settles}
+use Rattle.tapecard.proofs.Settling.{fresh-settled, change-settled, packet-settled, power-on-settled, train-settled, tick-settled}
+use Rattle.tapecard.proofs.Settling.{insert-settled, remove-settled, wait-settled}
 use Rattle.stream_parts.specs.declared.state.State.{State}
 use Rattle.stream_parts.specs.Answers.{Step}
 use Rattle.stream_laws.specs.Words.{Refusal}
 use Rattle.stream_laws.proofs.Refusals.{refused-keeps}
 use Rattle.pulse.specs.declared.drive.Drive.{Drive}
 use Rattle.packet_record.specs.PacketRecord.{decodeState, encodeAnswer}
-use Rattle.tapecard.specs.PacketCalls.{packetCard, packetFresh, packetChange, packetLeft, packetCall}
+use Rattle.tapecard.specs.PacketCalls.{packetCard, packetLeft, packetCall}
 use Rattle.pulse_record.specs.PulseRecord.{encodeTold}
-use Rattle.tapecard.specs.PulseCalls.{pulseLeft, pulsePowerOn, pulseTrain, pulseTick, pulseInsert, pulseRemove, pulseWait}
+use Rattle.tapecard.specs.PulseCalls.{pulseLeft, pulseTrain, pulseTick, pulseInsert, pulseRemove, pulseWait}
 use Rattle.card_laws.specs.Promises.{PacketRefusedUntouched, UntouchedIfRefused, TrainRefusedUntouched, TickRefusedUntouched, InsertRefusedUntouched, RemoveRefusedUntouched, WaitRefusedUntouched, CountsWhole, Settled}
 use Rattle.card_laws.proofs.PacketFollowing.{blocks-whole, bytes-whole}
 use Rattle.card_laws.proofs.PulseFollowing.{ticks-whole}
@@ -65,13 +66,13 @@ counts-whole = record { blocks = blocks-whole; bytes = bytes-whole; ticks = tick
 pub settled : Settled
 settled =
     record {
-      fresh = settles packetFresh;
-      change = λ state. settles (packetChange state);
-      packet = λ state image packet buf. settles (packetCall state image packet buf);
-      power-on = λ vendor rom. settles (pulsePowerOn vendor rom);
-      train = λ state pulses. settles (pulseTrain state pulses);
-      tick = λ state. settles (pulseTick state);
-      insert = λ state cartridge. settles (pulseInsert state cartridge);
-      remove = λ state. settles (pulseRemove state);
-      wait = λ state limit. settles (pulseWait state limit);
+      fresh = fresh-settled;
+      change = change-settled;
+      packet = packet-settled;
+      power-on = power-on-settled;
+      train = train-settled;
+      tick = tick-settled;
+      insert = insert-settled;
+      remove = remove-settled;
+      wait = wait-settled;
     }

@@ -21,9 +21,11 @@ use Rattle.stream_laws.specs.Words.{stateOf, blocksOf, bytesOf}
 use Rattle.numbers.specs.Counts.{countAt}
 use Rattle.numbers.specs.Outcomes.{Settles}
 use Rattle.packet_record.specs.PacketRecord.{decodeState, encodeState}
-use Rattle.tapecard.specs.PacketCalls.{PacketCard, packetCard, packetFresh, packetChange, packetCall}
+use Rattle.tapecard.specs.PacketCalls.{packetCard, packetFresh, packetChange, packetCall}
+use Rattle.tapecard.specs.PacketCalls.{PacketFreshPromise, PacketChangePromise, PacketCallPromise}
 use Rattle.pulse_record.specs.PulseRecord.{decodeDrive, encodeDrive, describedCartridge, describedPlace}
 use Rattle.tapecard.specs.PulseCalls.{PulseCard, pulsePowerOn, pulseTrain, pulseTick, pulseInsert, pulseRemove, pulseWait}
+use Rattle.tapecard.specs.PulseCalls.{PulsePowerOnPromise, PulseTrainPromise, PulseTickPromise, PulseInsertPromise, PulseRemovePromise, PulseWaitPromise}
 
 -- ---- "A refused call (number not 0) leaves the record's bytes, the image and every buffer exactly as they were; only the answer is written."
 
@@ -155,12 +157,12 @@ pub record CountsWhole : Type 0 where
 -- ---- 01: "Prove that any two outcomes allowed by it coincide"
 
 pub record Settled : Type 0 where
-  pub fresh : Settles (λ (x : List ℕ). x ≡ packetFresh)
-  pub change : (state : List ℕ) → Settles (λ (x : List ℕ). x ≡ packetChange state)
-  pub packet : (state image packet buf : List ℕ) → Settles (λ (x : PacketCard). x ≡ packetCall state image packet buf)
-  pub power-on : (vendor rom : ℕ) → Settles (λ (x : List ℕ). x ≡ pulsePowerOn vendor rom)
-  pub train : (state : List ℕ) (pulses : ℕ) → Settles (λ (x : PulseCard). x ≡ pulseTrain state pulses)
-  pub tick : (state : List ℕ) → Settles (λ (x : PulseCard). x ≡ pulseTick state)
-  pub insert : (state cartridge : List ℕ) → Settles (λ (x : PulseCard). x ≡ pulseInsert state cartridge)
-  pub remove : (state : List ℕ) → Settles (λ (x : PulseCard). x ≡ pulseRemove state)
-  pub wait : (state : List ℕ) (limit : ℕ) → Settles (λ (x : PulseCard). x ≡ pulseWait state limit)
+  pub fresh : Settles PacketFreshPromise
+  pub change : (state : List ℕ) → Settles (PacketChangePromise state)
+  pub packet : (state image packet buf : List ℕ) → Settles (PacketCallPromise state image packet buf)
+  pub power-on : (vendor rom : ℕ) → Settles (PulsePowerOnPromise vendor rom)
+  pub train : (state : List ℕ) (pulses : ℕ) → Settles (PulseTrainPromise state pulses)
+  pub tick : (state : List ℕ) → Settles (PulseTickPromise state)
+  pub insert : (state cartridge : List ℕ) → Settles (PulseInsertPromise state cartridge)
+  pub remove : (state : List ℕ) → Settles (PulseRemovePromise state)
+  pub wait : (state : List ℕ) (limit : ℕ) → Settles (PulseWaitPromise state limit)

@@ -2,6 +2,7 @@
 -- Assumes nothing.
 use Prim.Native.Nat.{ℕ}
 use mathlib.Core.List.{List}
+use mathlib.Core.Path.{_≡_}
 use Rattle.numbers.specs.Choice.{if_then_else_, _≡ᵇ_}
 use Rattle.stream_parts.specs.Answers.{Step}
 use Rattle.stream_parts.specs.States.{freshState, changedState}
@@ -37,3 +38,14 @@ packetLeft state x =
 -- all that `tapecard_packet` leaves: record, image, buffer, answer
 unfoldable pub packetCall : List ℕ → List ℕ → List ℕ → List ℕ → PacketCard
 packetCall state image packet buf = packetLeft state (packetStep image (decodeState state) packet buf)
+
+-- ---- the promise of each call on what it leaves
+
+abbrev pub PacketFreshPromise : List ℕ → Type 0
+PacketFreshPromise left = left ≡ packetFresh
+
+abbrev pub PacketChangePromise : List ℕ → List ℕ → Type 0
+PacketChangePromise state left = left ≡ packetChange state
+
+abbrev pub PacketCallPromise : List ℕ → List ℕ → List ℕ → List ℕ → PacketCard → Type 0
+PacketCallPromise state image packet buf left = left ≡ packetCall state image packet buf

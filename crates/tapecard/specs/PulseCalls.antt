@@ -3,6 +3,7 @@
 use Prim.Native.Nat.{ℕ}
 use mathlib.Core.Bool.{Bool}
 use mathlib.Core.List.{List}
+use mathlib.Core.Path.{_≡_}
 use Rattle.numbers.specs.Choice.{if_then_else_, _≡ᵇ_}
 use Rattle.pulse.specs.declared.calls.Step.{Step}
 use Rattle.pulse.specs.declared.calls.Waited.{Waited}
@@ -50,3 +51,23 @@ pulseRemove state = stepLeft state (removeCall (decodeDrive state))
 
 unfoldable pub pulseWait : List ℕ → ℕ → PulseCard
 pulseWait state limit = waitedLeft state (waitCall (decodeDrive state) limit)
+
+-- ---- the promise of each call on what it leaves
+
+abbrev pub PulsePowerOnPromise : ℕ → ℕ → List ℕ → Type 0
+PulsePowerOnPromise vendor rom left = left ≡ pulsePowerOn vendor rom
+
+abbrev pub PulseTrainPromise : List ℕ → ℕ → PulseCard → Type 0
+PulseTrainPromise state pulses left = left ≡ pulseTrain state pulses
+
+abbrev pub PulseTickPromise : List ℕ → PulseCard → Type 0
+PulseTickPromise state left = left ≡ pulseTick state
+
+abbrev pub PulseInsertPromise : List ℕ → List ℕ → PulseCard → Type 0
+PulseInsertPromise state cartridge left = left ≡ pulseInsert state cartridge
+
+abbrev pub PulseRemovePromise : List ℕ → PulseCard → Type 0
+PulseRemovePromise state left = left ≡ pulseRemove state
+
+abbrev pub PulseWaitPromise : List ℕ → ℕ → PulseCard → Type 0
+PulseWaitPromise state limit left = left ≡ pulseWait state limit

@@ -1,20 +1,19 @@
 // The calls of the packet drive.
-ghost use mathlib.Core.Path.{_≡_};
-ghost use Rattle.tapecard.specs.PacketCalls.{packetCard, packetFresh, packetChange, packetCall};
+ghost use Rattle.tapecard.specs.PacketCalls.{packetCard, PacketFreshPromise, PacketChangePromise, PacketCallPromise};
 use packet_record::decode_state;
 use packet_record::encode_answer;
 use packet_record::encode_state;
 
 #[no_mangle]
 pub extern "C" fn tapecard_fresh(state: &mut [u8; 16])
-    ensures { λ _. ⌜ now (state .exit) ≡ packetFresh ⌝ }
+    ensures { λ _. ⌜ PacketFreshPromise (now (state .exit)) ⌝ }
 {
     *state = encode_state(stream::fresh());
 }
 
 #[no_mangle]
 pub extern "C" fn tapecard_change(state: &mut [u8; 16])
-    ensures { λ _. ⌜ now (state .exit) ≡ packetChange (now (state .entry)) ⌝ }
+    ensures { λ _. ⌜ PacketChangePromise (now (state .entry)) (now (state .exit)) ⌝ }
 {
     let before = decode_state(state);
     *state = encode_state(stream::changed(before));
@@ -28,8 +27,8 @@ pub extern "C" fn tapecard_packet(
     buf: &mut [u8],
     answer: &mut [u8; 16],
 )
-    ensures { λ _. ⌜ packetCard (now (state .exit)) (now (image .exit)) (now (buf .exit)) (now (answer .exit))
-        ≡ packetCall (now (state .entry)) (now (image .entry)) (now (packet .entry)) (now (buf .entry)) ⌝ }
+    ensures { λ _. ⌜ PacketCallPromise (now (state .entry)) (now (image .entry)) (now (packet .entry)) (now (buf .entry))
+        (packetCard (now (state .exit)) (now (image .exit)) (now (buf .exit)) (now (answer .exit))) ⌝ }
 {
     let before = decode_state(state);
     let outcome = stream::packet(image, before, packet, buf);

@@ -1,6 +1,8 @@
 // The calls of the pulse drive.
 ghost use mathlib.Core.Path.{_≡_};
-ghost use Rattle.tapecard.specs.PulseCalls.{pulseCard, pulseLeft, pulsePowerOn, pulseTrain, pulseTick, pulseInsert, pulseRemove, pulseWait};
+ghost use Rattle.tapecard.specs.PulseCalls.{pulseCard, pulseLeft};
+ghost use Rattle.tapecard.specs.PulseCalls.{PulsePowerOnPromise, PulseTrainPromise, PulseTickPromise};
+ghost use Rattle.tapecard.specs.PulseCalls.{PulseInsertPromise, PulseRemovePromise, PulseWaitPromise};
 use pulse::Drive;
 use pulse_record::decode_drive;
 use pulse_record::described_cartridge;
@@ -29,14 +31,14 @@ fn leave(
 
 #[no_mangle]
 pub extern "C" fn tapecard_pulse_power_on(state: &mut [u8; 32], vendor: u16, rom: u8)
-    ensures { λ _. ⌜ now (state .exit) ≡ pulsePowerOn vendor rom ⌝ }
+    ensures { λ _. ⌜ PulsePowerOnPromise vendor rom (now (state .exit)) ⌝ }
 {
     *state = encode_drive(Drive::power_on(vendor, rom));
 }
 
 #[no_mangle]
 pub extern "C" fn tapecard_pulse_train(state: &mut [u8; 32], pulses: u16, answer: &mut [u8; 8])
-    ensures { λ _. ⌜ pulseCard (now (state .exit)) (now (answer .exit)) ≡ pulseTrain (now (state .entry)) pulses ⌝ }
+    ensures { λ _. ⌜ PulseTrainPromise (now (state .entry)) pulses (pulseCard (now (state .exit)) (now (answer .exit))) ⌝ }
 {
     let step = decode_drive(state).train(pulses);
     let after = step.drive;
@@ -45,7 +47,7 @@ pub extern "C" fn tapecard_pulse_train(state: &mut [u8; 32], pulses: u16, answer
 
 #[no_mangle]
 pub extern "C" fn tapecard_pulse_tick(state: &mut [u8; 32], answer: &mut [u8; 8])
-    ensures { λ _. ⌜ pulseCard (now (state .exit)) (now (answer .exit)) ≡ pulseTick (now (state .entry)) ⌝ }
+    ensures { λ _. ⌜ PulseTickPromise (now (state .entry)) (pulseCard (now (state .exit)) (now (answer .exit))) ⌝ }
 {
     let step = decode_drive(state).tick();
     let after = step.drive;
@@ -58,7 +60,7 @@ pub extern "C" fn tapecard_pulse_insert(
     cartridge: &[u8; 8],
     answer: &mut [u8; 8],
 )
-    ensures { λ _. ⌜ pulseCard (now (state .exit)) (now (answer .exit)) ≡ pulseInsert (now (state .entry)) (now (cartridge .entry)) ⌝ }
+    ensures { λ _. ⌜ PulseInsertPromise (now (state .entry)) (now (cartridge .entry)) (pulseCard (now (state .exit)) (now (answer .exit))) ⌝ }
 {
     let described = described_cartridge(cartridge);
     let place = described_place(cartridge);
@@ -69,7 +71,7 @@ pub extern "C" fn tapecard_pulse_insert(
 
 #[no_mangle]
 pub extern "C" fn tapecard_pulse_remove(state: &mut [u8; 32], answer: &mut [u8; 8])
-    ensures { λ _. ⌜ pulseCard (now (state .exit)) (now (answer .exit)) ≡ pulseRemove (now (state .entry)) ⌝ }
+    ensures { λ _. ⌜ PulseRemovePromise (now (state .entry)) (pulseCard (now (state .exit)) (now (answer .exit))) ⌝ }
 {
     let step = decode_drive(state).remove();
     let after = step.drive;
@@ -78,7 +80,7 @@ pub extern "C" fn tapecard_pulse_remove(state: &mut [u8; 32], answer: &mut [u8; 
 
 #[no_mangle]
 pub extern "C" fn tapecard_pulse_wait(state: &mut [u8; 32], limit: u32, answer: &mut [u8; 8])
-    ensures { λ _. ⌜ pulseCard (now (state .exit)) (now (answer .exit)) ≡ pulseWait (now (state .entry)) limit ⌝ }
+    ensures { λ _. ⌜ PulseWaitPromise (now (state .entry)) limit (pulseCard (now (state .exit)) (now (answer .exit))) ⌝ }
 {
     let waited = decode_drive(state).wait(limit);
     let after = waited.drive;

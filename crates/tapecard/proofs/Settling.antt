@@ -1,0 +1,37 @@
+-- 01: "Prove that any two outcomes allowed by it coincide", for each call.
+-- Assumes nothing.
+use mathlib.Core.List.{List}
+use Prim.Native.Nat.{ℕ}
+use Rattle.numbers.specs.Outcomes.{Settles}
+use Rattle.numbers.proofs.Cases.{settles}
+use Rattle.tapecard.specs.PacketCalls.{PacketCallPromise, PacketChangePromise, PacketFreshPromise, packetCall, packetChange, packetFresh}
+use Rattle.tapecard.specs.PulseCalls.{PulseInsertPromise, PulsePowerOnPromise, PulseRemovePromise}
+use Rattle.tapecard.specs.PulseCalls.{PulseTickPromise, PulseTrainPromise, PulseWaitPromise}
+use Rattle.tapecard.specs.PulseCalls.{pulseInsert, pulsePowerOn, pulseRemove, pulseTick, pulseTrain, pulseWait}
+
+pub fresh-settled : Settles PacketFreshPromise
+fresh-settled = settles packetFresh
+
+pub change-settled : (state : List ℕ) → Settles (PacketChangePromise state)
+change-settled state = settles (packetChange state)
+
+pub packet-settled : (state image packet buf : List ℕ) → Settles (PacketCallPromise state image packet buf)
+packet-settled state image packet buf = settles (packetCall state image packet buf)
+
+pub power-on-settled : (vendor rom : ℕ) → Settles (PulsePowerOnPromise vendor rom)
+power-on-settled vendor rom = settles (pulsePowerOn vendor rom)
+
+pub train-settled : (state : List ℕ) (pulses : ℕ) → Settles (PulseTrainPromise state pulses)
+train-settled state pulses = settles (pulseTrain state pulses)
+
+pub tick-settled : (state : List ℕ) → Settles (PulseTickPromise state)
+tick-settled state = settles (pulseTick state)
+
+pub insert-settled : (state cartridge : List ℕ) → Settles (PulseInsertPromise state cartridge)
+insert-settled state cartridge = settles (pulseInsert state cartridge)
+
+pub remove-settled : (state : List ℕ) → Settles (PulseRemovePromise state)
+remove-settled state = settles (pulseRemove state)
+
+pub wait-settled : (state : List ℕ) (limit : ℕ) → Settles (PulseWaitPromise state limit)
+wait-settled state limit = settles (pulseWait state limit)
