@@ -28,21 +28,21 @@ use Rattle.card_laws.proofs.ByteLaws.{largest, in-largest}
 use Rattle.card_laws.proofs.CycleLaws.{few-held}
 
 -- a list of bytes, by its first and its rest
-data All : List ℕ → Type 0 where
+pub data All : List ℕ → Type 0 where
   none : All []
   next : {x : ℕ} {xs : List ℕ} → x < 256 → All xs → All (x ∷ xs)
 
-word : (v : ℕ) {xs : List ℕ} → All xs → All (countBytes 2 v ++ xs)
+pub word : (v : ℕ) {xs : List ℕ} → All xs → All (countBytes 2 v ++ xs)
 word v a = next {x = v / 256 % 256} (omega arith) (next {x = v % 256} (omega arith) a)
 
-bytes-of : {s : List ℕ} → All s → Bytes s
+pub bytes-of : {s : List ℕ} → All s → Bytes s
 bytes-of none i = omega arith
 bytes-of (next l a) zero = l
 bytes-of (next l a) (suc i) = bytes-of a i
 
 -- ---- the numbers of a drive that keeps the rules
 
-flag-most : (b : Bool) (weight : ℕ) → weightOf b weight ≤ weight
+pub flag-most : (b : Bool) (weight : ℕ) → weightOf b weight ≤ weight
 flag-most true weight = omega arith
 flag-most false weight = omega arith
 

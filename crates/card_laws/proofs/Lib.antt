@@ -4,5 +4,6 @@ pub mod DriveFits
 pub mod BytesKept
 pub mod PulseFollowing
 pub mod PacketFollowing
+pub mod PacketBytes
 pub mod Recovering
 pub mod CardLaws
