@@ -13,9 +13,9 @@ use Rattle.pulse_parts.specs.Codes.{softReset}
 use Rattle.pulse_parts.specs.Errors.{noError}
 use Rattle.pulse_parts.specs.Faults.{errorHeld}
 use Rattle.pulse.specs.declared.calls.Step.{Step}
-use Rattle.pulse.specs.declared.calls.Waited.{Waited}
 use Rattle.pulse.specs.declared.drive.Drive.{Drive}
 use Rattle.pulse.specs.Calls.{alreadySo, emptyTrain, insertCall, notRefused, removeCall, tickCall, trainCall, waitCall}
+use Rattle.pulse.specs.Calls.{InsertPromise, PowerOnPromise, RemovePromise, TickPromise, TrainPromise, WaitPromise}
 use Rattle.pulse.specs.Drives.{isReady, powerOn}
 use Rattle.pulse.specs.Rules.{keepsRules, maxSegments}
 use Rattle.pulse_laws.specs.Plates.{allPrint, plates}
@@ -116,12 +116,12 @@ OnlyResetStarts =
 
 -- 01: "Prove that any two outcomes allowed by it coincide"
 pub record Settled : Type 0 where
-  pub power-on : (vendor rom : ℕ) → Settles (λ (x : Drive). x ≡ powerOn vendor rom)
-  pub train : (d : Drive) (n : ℕ) → Settles (λ (x : Step). x ≡ trainCall d n)
-  pub tick : (d : Drive) → Settles (λ (x : Step). x ≡ tickCall d)
-  pub insert : (d : Drive) (cart : Cartridge) (place : ℕ) → Settles (λ (x : Step). x ≡ insertCall d cart place)
-  pub remove : (d : Drive) → Settles (λ (x : Step). x ≡ removeCall d)
-  pub wait : (d : Drive) (limit : ℕ) → Settles (λ (x : Waited). x ≡ waitCall d limit)
+  pub power-on : (vendor rom : ℕ) → Settles (PowerOnPromise vendor rom)
+  pub train : (d : Drive) (n : ℕ) → Settles (TrainPromise d n)
+  pub tick : (d : Drive) → Settles (TickPromise d)
+  pub insert : (d : Drive) (cart : Cartridge) (place : ℕ) → Settles (InsertPromise d cart place)
+  pub remove : (d : Drive) → Settles (RemovePromise d)
+  pub wait : (d : Drive) (limit : ℕ) → Settles (WaitPromise d limit)
 
 -- 01: "A small set is proved together as one table (*)"
 abbrev pub PlatesPrint : Type 0
