@@ -1,15 +1,15 @@
--- What a call of the packet drive leaves of its record are bytes again.
+-- What a call of the packet drive leaves of its record, and what it answers, are bytes.
 -- Assumes nothing.
 use mathlib.Core.Path.{_≡_, refl, _∙_}
 use mathlib.Core.Bool.{Bool, true, false, cond, not, _&&_}
 use mathlib.Core.List.{List, _++_}
 use Prim.Native.Nat.{ℕ, _/_, _%_, _<_}
 use native.Mathlib.Omega.{arith}
-use borrow.Author.Tests.{eqb-true, ltb-true}
+use borrow.Author.Tests.{eqb-true, ltb-true, not-true}
 use lib.ListN.{length}
-use Rattle.numbers.specs.Choice.{_<ᵇ_, _≡ᵇ_}
+use Rattle.numbers.specs.Choice.{_<ᵇ_, _≡ᵇ_, if_then_else_}
 use Rattle.numbers.specs.Counts.{countBytes}
-use Rattle.numbers.proofs.Cases.{ands, either, never}
+use Rattle.numbers.proofs.Cases.{ands, either}
 use Rattle.image.specs.declared.header.Header.{Header}
 use Rattle.image.specs.declared.header.Judged.{Judged}
 use Rattle.image.specs.declared.header.Judged.the-variants.{Broken, Good as GoodHeader}
@@ -39,57 +39,53 @@ use Rattle.stream.specs.Work.{endingOf, loadWork, locateWork, markWork, readEnd
 use Rattle.stream.specs.Work.{writeEnding, writeEnds, writeWork}
 use Rattle.stream_laws.specs.Words.{numberOf, stateOf}
 use Rattle.stream_laws.proofs.Leaving.{accepted-leaves}
-use Rattle.packet_record.specs.PacketRecord.{attentionByte, decodeState, encodeState}
+use Rattle.packet_record.specs.PacketRecord.{attentionByte, decodeState, encodeAnswer, encodeState}
 use Rattle.tapecard.specs.PacketCalls.{packetCall, packetChange, packetFresh, packetLeft}
 use Rattle.card_laws.specs.Promises.{Bytes, PacketStaysBytes}
 use Rattle.card_laws.proofs.BytesKept.{All, bytes-of, flag-most, next, none, word}
 
--- ---- every sense that a packet leaves has its two codes in a byte each
+-- ---- every number that a packet tells, and both codes of every sense that it leaves, stand in a byte each
 
 abbrev low : Sense → Bool
 low x = (x .asc <ᵇ 256) && (x .ascq <ᵇ 256)
+
+-- the record is left only where the packet is not refused
+abbrev fits : Outcome → Bool
+fits x = (x .answer .number <ᵇ 256) && (x .answer .status <ᵇ 256) && (if x .answer .number ≡ᵇ 0 then low (x .state .sense) else true)
 
 alike : (b : Bool) → cond b true true ≡ true
 alike true = refl
 alike false = refl
 
 -- before the work
-abbrev lowEnd : Verdict → Bool
-lowEnd (Refuses number) = not (number ≡ᵇ 0)
-lowEnd (Ends x) = low x
-lowEnd Works = true
+abbrev lowVerdict : Verdict → Bool
+lowVerdict (Refuses number) = (number <ᵇ 256) && not (number ≡ᵇ 0)
+lowVerdict (Ends x) = low x
+lowVerdict Works = true
 
-verdict-of : (b : Bool) (x y : Verdict) → lowEnd (cond b x y) ≡ cond b (lowEnd x) (lowEnd y)
+verdict-of : (b : Bool) (x y : Verdict) → lowVerdict (cond b x y) ≡ cond b (lowVerdict x) (lowVerdict y)
 verdict-of true x y = refl
 verdict-of false x y = refl
 
-attention-low : (a : Attention) → lowEnd (Ends (unitAttention a)) ≡ true
+attention-low : (a : Attention) → low (unitAttention a) ≡ true
 attention-low Nothing = refl
 attention-low MediumChanged = refl
 attention-low Reset = refl
 
-verdict-low : (h : Header) (st : State) (q : Request) (room : ℕ) → lowEnd (verdictOf h st q room) ≡ true
+verdict-low : (h : Header) (st : State) (q : Request) (room : ℕ) → lowVerdict (verdictOf h st q room) ≡ true
 unfolding verdictOf tapeVerdictOf
 verdict-low h st q room = simp (verdict-of, attention-low (st .attention), alike)
 
 -- the work
-abbrev lowOf : Ending → Bool
-lowOf Good = true
-lowOf (Check x) = low x
+abbrev lowEnding : Ending → Bool
+lowEnding Good = true
+lowEnding (Check x) = low x
 
-abbrev lowOut : Outcome → Bool
-lowOut x = low (x .state .sense)
+ending-of : (b : Bool) (x y : Ending) → lowEnding (cond b x y) ≡ cond b (lowEnding x) (lowEnding y)
+ending-of true x y = refl
+ending-of false x y = refl
 
-ends-low : (st : State) (e : Ending) (blocks bytes : ℕ) → lowOut (ends st e blocks bytes) ≡ lowOf e
-unfolding ends
-ends-low st Good blocks bytes = refl
-ends-low st (Check x) blocks bytes = refl
-
-out-of : (b : Bool) (x y : Outcome) → lowOut (cond b x y) ≡ cond b (lowOut x) (lowOut y)
-out-of true x y = refl
-out-of false x y = refl
-
-ending-low : (stop : Stop) (left : ℕ) → lowOf (endingOf stop left) ≡ true
+ending-low : (stop : Stop) (left : ℕ) → lowEnding (endingOf stop left) ≡ true
 unfolding endingOf
 ending-low Full left = refl
 ending-low AtFilemark left = refl
@@ -97,60 +93,62 @@ ending-low AtBadBlock left = refl
 ending-low AtEnd left = refl
 ending-low AtBeginning left = refl
 
-ending-of : (b : Bool) (x y : Ending) → lowOf (cond b x y) ≡ cond b (lowOf x) (lowOf y)
-ending-of true x y = refl
-ending-of false x y = refl
-
-write-low : (h : Header) (asked : ℕ) (m : Moved) → lowOf (writeEnding h asked m) ≡ true
+write-low : (h : Header) (asked : ℕ) (m : Moved) → lowEnding (writeEnding h asked m) ≡ true
 unfolding writeEnding
 write-low h asked m = simp (ending-of, alike)
 
-abbrev LowOut : Outcome → Type 0
-LowOut x = lowOut x ≡ true
+ends-fits : (st : State) (e : Ending) (blocks bytes : ℕ) → fits (ends st e blocks bytes) ≡ lowEnding e
+unfolding ends
+ends-fits st Good blocks bytes = refl
+ends-fits st (Check x) blocks bytes = refl
 
-good : (st : State) (blocks bytes : ℕ) → LowOut (ends st Good blocks bytes)
-good st blocks bytes = ends-low st Good blocks bytes
+fits-of : (b : Bool) (x y : Outcome) → fits (cond b x y) ≡ cond b (fits x) (fits y)
+fits-of true x y = refl
+fits-of false x y = refl
 
-work-low : (c : Command) (s : List ℕ) (h : Header) (st : State) (q : Request) (buf : List ℕ) → LowOut (workOf c s h st q buf .out)
+work-fits : (c : Command) (s : List ℕ) (h : Header) (st : State) (q : Request) (buf : List ℕ) → fits (workOf c s h st q buf .out) ≡ true
 unfolding workOf readWork readEnds writeWork writeEnds markWork spaceWork replyEnds selectWork loadWork locateWork
-work-low Unknown s h st q buf = good _ _ _
-work-low TestUnitReady s h st q buf = good _ _ _
-work-low Rewind s h st q buf = good _ _ _
-work-low RequestSense s h st q buf = good _ _ _
-work-low Read s h st q buf = ends-low _ _ _ _ ∙ ending-low _ _
-work-low Write s h st q buf = ends-low _ _ _ _ ∙ write-low _ _ _
-work-low WriteFilemarks s h st q buf = ends-low _ _ _ _ ∙ write-low _ _ _
-work-low Space s h st q buf = simp (out-of, ends-low, ending-low, alike)
-work-low Inquiry s h st q buf = good _ _ _
-work-low ModeSelect s h st q buf = simp (out-of, ends-low, alike)
-work-low ModeSense s h st q buf = good _ _ _
-work-low LoadUnload s h st q buf = good _ _ _
-work-low Locate s h st q buf = simp (out-of, ends-low, alike)
-work-low ReadPosition s h st q buf = good _ _ _
+work-fits Unknown s h st q buf = ends-fits _ _ _ _
+work-fits TestUnitReady s h st q buf = ends-fits _ _ _ _
+work-fits Rewind s h st q buf = ends-fits _ _ _ _
+work-fits RequestSense s h st q buf = ends-fits _ _ _ _
+work-fits Read s h st q buf = ends-fits _ _ _ _ ∙ ending-low _ _
+work-fits Write s h st q buf = ends-fits _ _ _ _ ∙ write-low _ _ _
+work-fits WriteFilemarks s h st q buf = ends-fits _ _ _ _ ∙ write-low _ _ _
+work-fits Space s h st q buf = simp (fits-of, ends-fits, ending-low, alike)
+work-fits Inquiry s h st q buf = ends-fits _ _ _ _
+work-fits ModeSelect s h st q buf = simp (fits-of, ends-fits, alike)
+work-fits ModeSense s h st q buf = ends-fits _ _ _ _
+work-fits LoadUnload s h st q buf = ends-fits _ _ _ _
+work-fits Locate s h st q buf = simp (fits-of, ends-fits, alike)
+work-fits ReadPosition s h st q buf = ends-fits _ _ _ _
 
--- a packet that is accepted
-abbrev LowLeft : Step → Type 0
-LowLeft x = numberOf x ≡ 0 → LowOut (x .out)
+-- the whole packet
+abbrev Fits : Step → Type 0
+Fits x = fits (x .out) ≡ true
 
-carried-low : (v : Verdict) (s : List ℕ) (h : Header) (st : State) (q : Request) (buf : List ℕ) → lowEnd v ≡ true →
-    LowLeft (carriedOut v s h st q buf)
+carried-fits : (v : Verdict) (s : List ℕ) (h : Header) (st : State) (q : Request) (buf : List ℕ) → lowVerdict v ≡ true →
+    Fits (carriedOut v s h st q buf)
 unfolding carriedOut
-carried-low (Refuses number) s h st q buf e z = never e (rw z)
-carried-low (Ends x) s h st q buf e z = e
-carried-low Works s h st q buf e z = work-low (q .command) s h st q buf
+carried-fits (Refuses number) s h st q buf e =
+    let l : (number <ᵇ 256) ≡ true = search ands in
+    let n : (number ≡ᵇ 0) ≡ false = not-true _ (search ands) in
+    rw (l, n)
+carried-fits (Ends x) s h st q buf e = e
+carried-fits Works s h st q buf e = work-fits (q .command) s h st q buf
 
-judged-low : (j : Judged) (s : List ℕ) (st : State) (packet buf : List ℕ) → LowLeft (judged j s st packet buf)
+judged-fits : (j : Judged) (s : List ℕ) (st : State) (packet buf : List ℕ) → Fits (judged j s st packet buf)
 unfolding judged decided
-judged-low Broken s st packet buf = λ z. absurd (omega arith)
-judged-low (GoodHeader h) s st packet buf =
-    either LowLeft (not (keepsRecordRules h st)) _ _ (λ e z. absurd (omega arith)) (λ e. carried-low _ s h st _ buf (verdict-low h st _ (length buf)))
+judged-fits Broken s st packet buf = refl
+judged-fits (GoodHeader h) s st packet buf =
+    either Fits (not (keepsRecordRules h st)) _ _ (λ e. refl) (λ e. carried-fits _ s h st _ buf (verdict-low h st _ (length buf)))
 
-packet-low : (s : List ℕ) (st : State) (packet buf : List ℕ) → LowLeft (packetStep s st packet buf)
+packet-fits : (s : List ℕ) (st : State) (packet buf : List ℕ) → Fits (packetStep s st packet buf)
 unfolding packetStep
-packet-low s st packet buf =
-    either LowLeft (not (length packet ≡ᵇ packetLength)) _ _ (λ e z. absurd (omega arith)) (λ e. judged-low (headerOf s) s st packet buf)
+packet-fits s st packet buf =
+    either Fits (not (length packet ≡ᵇ packetLength)) _ _ (λ e. refl) (λ e. judged-fits (headerOf s) s st packet buf)
 
--- ---- its bytes
+-- ---- the bytes
 
 quad : (v : ℕ) {xs : List ℕ} → All xs → All (countBytes 4 v ++ xs)
 quad v a =
@@ -178,25 +176,43 @@ state-bytes st key l =
     (next ascq
     (next (omega (arith, flag-most (x .valid) 1, flag-most (x .eom) 2, flag-most (x .filemark) 4)) (quad (x .information) none)))))))))
 
+sense-low : (x : Outcome) → (x .answer .number ≡ᵇ 0) ≡ true → fits x ≡ true → low (x .state .sense) ≡ true
+sense-low x e f =
+    let g : (if x .answer .number ≡ᵇ 0 then low (x .state .sense) else true) ≡ true = search ands in
+    rw e at g
+
+answer-bytes : (x : Outcome) → fits x ≡ true → Bytes (encodeAnswer (x .answer))
+unfolding encodeAnswer
+answer-bytes x e =
+    let number = ltb-true (x .answer .number) 256 (search ands) in
+    let status = ltb-true (x .answer .status) 256 (search ands) in
+    let zero : 0 < 256 = omega arith in
+    bytes-of
+    (next number
+    (next status
+    (next zero
+    (next zero (quad (x .answer .blocks) (quad (x .answer .bytes) (next zero (next zero (next zero (next zero none))))))))))
+
 -- ---- the promises
 
-packet-bytes : (state image packet buf : List ℕ) → Bytes state → Bytes (packetCall state image packet buf .state)
+record-bytes : (state image packet buf : List ℕ) → Bytes state → Bytes (packetCall state image packet buf .state)
 unfolding packetCall packetLeft
-packet-bytes state image packet buf b =
+record-bytes state image packet buf b =
     let st = decodeState state in
     let x = packetStep image st packet buf in
     either Bytes (numberOf x ≡ᵇ 0) (encodeState (stateOf x)) state
     (λ e.
-    let z = eqb-true (numberOf x) 0 e in
-    let w = accepted-leaves image st packet buf z in
-    state-bytes (stateOf x) (omega (arith, w .accepted .ruly .key)) (packet-low image st packet buf z))
+    let w = accepted-leaves image st packet buf (eqb-true (numberOf x) 0 e) in
+    state-bytes (stateOf x) (omega (arith, w .accepted .ruly .key)) (sense-low (x .out) e (packet-fits image st packet buf)))
     (λ e. b)
 
 pub packet-stays-bytes : PacketStaysBytes
-unfolding packetFresh packetChange
+unfolding packetFresh packetChange packetCall packetLeft
 packet-stays-bytes =
     record {
       fresh = state-bytes freshState (omega arith) refl;
       change = λ state. state-bytes (changedState (decodeState state)) (omega arith) refl;
-      packet = packet-bytes;
+      packet = record-bytes;
+      answer = λ state image packet buf.
+          answer-bytes (packetStep image (decodeState state) packet buf .out) (packet-fits image (decodeState state) packet buf);
     }

@@ -122,11 +122,12 @@ pub record StaysBytes : Type 0 where
   pub remove : (state : List ℕ) → Bytes state → Bytes (pulseRemove state .state)
   pub wait : (state : List ℕ) (limit : ℕ) → Bytes state → Bytes (pulseWait state limit .state)
 
--- and so with the packet drive's record
+-- and so with the packet drive's record; its answer is bytes too
 pub record PacketStaysBytes : Type 0 where
   pub fresh : Bytes packetFresh
   pub change : (state : List ℕ) → Bytes (packetChange state)
   pub packet : (state image packet buf : List ℕ) → Bytes state → Bytes (packetCall state image packet buf .state)
+  pub answer : (state image packet buf : List ℕ) → Bytes (packetCall state image packet buf .answer)
 
 -- "From any reachable pulse state with a cartridge in: after as many silent ticks as a track has segments, the 46 recovery trains ..", on the bytes
 -- themselves: whatever 32 bytes spell a drive that keeps the rules, with a cartridge in
