@@ -75,12 +75,16 @@ module _ (a b c d e : Bool) where
   abbrev pub fiveFlags : ℕ
   fiveFlags = weightOf a 1 + weightOf b 2 + weightOf c 4 + weightOf d 8 + weightOf e 16
 
-  five-bits : (fiveFlags / 1 % 2 ≡ one a) × ((fiveFlags / 2 % 2 ≡ one b) × ((fiveFlags / 4 % 2 ≡ one c) × ((fiveFlags / 8 % 2 ≡ one d) × (fiveFlags / 16 % 2 ≡ one e))))
+  five-bits :
+      (fiveFlags / 1 % 2 ≡ one a)
+      × ((fiveFlags / 2 % 2 ≡ one b) × ((fiveFlags / 4 % 2 ≡ one c) × ((fiveFlags / 8 % 2 ≡ one d) × (fiveFlags / 16 % 2 ≡ one e))))
   five-bits =
       five (one a) (one b) (one c) (one d) (one e) fiveFlags (weight-most a 1) (weight-most b 1) (weight-most c 1) (weight-most d 1) (weight-most e 1)
       (rw (weight-is b 2, weight-is c 4, weight-is d 8, weight-is e 16))
 
-  pub five-back : (isSet fiveFlags 1 ≡ a) × ((isSet fiveFlags 2 ≡ b) × ((isSet fiveFlags 4 ≡ c) × ((isSet fiveFlags 8 ≡ d) × (isSet fiveFlags 16 ≡ e))))
+  pub five-back :
+      (isSet fiveFlags 1 ≡ a)
+      × ((isSet fiveFlags 2 ≡ b) × ((isSet fiveFlags 4 ≡ c) × ((isSet fiveFlags 8 ≡ d) × (isSet fiveFlags 16 ≡ e))))
   five-back = (
     set-by _ a (five-bits .0),
     (

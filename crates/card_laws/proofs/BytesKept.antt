@@ -79,7 +79,8 @@ unfolding needed
 code-low code l =
     test ((code ≡ᵇ seekTrack) || (code ≡ᵇ selectRate)) (one-of seekTrack selectRate (omega arith) (omega arith))
     (λ a. test ((code ≡ᵇ skipReverse) || (code ≡ᵇ skipForward)) (one-of skipReverse skipForward (omega arith) (omega arith))
-    (λ b. test ((code ≡ᵇ skipExtendedReverse) || (code ≡ᵇ skipExtendedForward)) (one-of skipExtendedReverse skipExtendedForward (omega arith) (omega arith))
+    (λ b. test ((code ≡ᵇ skipExtendedReverse) || (code ≡ᵇ skipExtendedForward))
+    (one-of skipExtendedReverse skipExtendedForward (omega arith) (omega arith))
     (λ c. absurd (let z : 0 < 0 = rw (a, b, c) at l in omega arith))))
   where
     one-of : (x y : ℕ) → x < 256 → y < 256 → ((code ≡ᵇ x) || (code ≡ᵇ y)) ≡ true → code < 256
@@ -105,8 +106,9 @@ encoded-bytes d k f =
     let error = in-largest (d .fault .error) admittedErrors (r .0 .error) in
     let left = leb-true (d .report .left) mostItems (search ands) in
     let held = few-held (d .waiting) free (m .referenced) (r .1) in
+    let repeat = flag-most (d .report .repeat) 16 in
     bytes-of
-    (next (omega (arith, flag-most (m .inside) 1, flag-most (m .referenced) 2, flag-most (m .fresh) 4, flag-most (m .asked) 8, flag-most (d .report .repeat) 16))
+    (next (omega (arith, flag-most (m .inside) 1, flag-most (m .referenced) 2, flag-most (m .fresh) 4, flag-most (m .asked) 8, repeat))
     (next (motion-low (d .head .motion))
     (word (d .cart .segments)
     (next (c .tracks)

@@ -25,21 +25,26 @@ use Rattle.pulse_parts.specs.declared.reports.Report.{Report}
 use Rattle.pulse_parts.specs.Arguments.{needed, waitingFits}
 use Rattle.pulse_parts.specs.Codes.{seekTrack, selectRate, skipReverse, skipForward, skipExtendedReverse, skipExtendedForward}
 use Rattle.pulse.specs.declared.drive.Drive.{Drive}
+use Rattle.pulse.specs.Drives.{driveOf}
 use Rattle.pulse.specs.Rules.{isFree}
 use Rattle.pulse_laws.proofs.Rules.{Cart, full, bare, to-rules}
 use Rattle.packet_record.specs.PacketRecord.{decodeState, encodeState}
-use Rattle.pulse_record.specs.PulseRecord.{waitingOf, waitedCode, waitedHeld, waitedValue, cartridgeOf, cartridgeByte, cartridgeIn, headIn, reportIn, waitingIn, decodeDrive, encodeDrive}
+use Rattle.pulse_record.specs.PulseRecord.{waitingOf, waitedCode, waitedHeld, waitedValue, cartridgeOf, cartridgeByte, cartridgeIn, headIn, reportIn}
+use Rattle.pulse_record.specs.PulseRecord.{waitingIn, decodeDrive, encodeDrive}
 use Rattle.card_laws.specs.Promises.{HeldAlone, StateKeptByCycle, DecodedStateFits, DriveKeptByCycle, DecodedDriveFits}
-use Rattle.card_laws.proofs.ByteLaws.{two-back, four-back, one-back, three-back, five-back, attention-back, motion-back, bits-back, unsent-most, unsent-closed}
+use Rattle.card_laws.proofs.ByteLaws.{two-back, four-back, one-back, three-back, five-back, attention-back, motion-back, bits-back}
+use Rattle.card_laws.proofs.ByteLaws.{unsent-most, unsent-closed}
 
 -- ---- the packet drive
 
 same-state : {p p' s s' : ℕ} {l l' : Bool} {a a' : Attention} {x x' : Sense} → p ≡ p' → l ≡ l' → a ≡ a' → s ≡ s' → x ≡ x'
-    → _≡_ {A = State} (record { position = p; loaded = l; attention = a; speed = s; sense = x }) (record { position = p'; loaded = l'; attention = a'; speed = s'; sense = x' })
+    → _≡_ {A = State} (record { position = p; loaded = l; attention = a; speed = s; sense = x })
+    (record { position = p'; loaded = l'; attention = a'; speed = s'; sense = x' })
 same-state p l a s x = rw (p, l, a, s, x)
 
 same-sense : {k c q i i' : ℕ} {f f' e e' v v' : Bool} → f ≡ f' → e ≡ e' → v ≡ v' → i ≡ i'
-    → _≡_ {A = Sense} (record { key = k; asc = c; ascq = q; filemark = f; eom = e; valid = v; information = i }) (record { key = k; asc = c; ascq = q; filemark = f'; eom = e'; valid = v'; information = i' })
+    → _≡_ {A = Sense} (record { key = k; asc = c; ascq = q; filemark = f; eom = e; valid = v; information = i })
+    (record { key = k; asc = c; ascq = q; filemark = f'; eom = e'; valid = v'; information = i' })
 same-sense f e v i = rw (f, e, v, i)
 
 pub state-kept-by-cycle : StateKeptByCycle
@@ -128,12 +133,13 @@ same-marks : {i i' r r' n n' a a' : Bool} → i ≡ i' → r ≡ r' → n ≡ n'
     → _≡_ {A = Marks} (record { inside = i; referenced = r; fresh = n; asked = a }) (record { inside = i'; referenced = r'; fresh = n'; asked = a' })
 same-marks i r n a = rw (i, r, n, a)
 
-same-report : {l b b' : ℕ} {r r' : Bool} → b ≡ b' → r ≡ r' → _≡_ {A = Report} (record { left = l; bits = b; repeat = r }) (record { left = l; bits = b'; repeat = r' })
+same-report : {l b b' : ℕ} {r r' : Bool} → b ≡ b' → r ≡ r' →
+    _≡_ {A = Report} (record { left = l; bits = b; repeat = r }) (record { left = l; bits = b'; repeat = r' })
 same-report b r = rw (b, r)
 
 same-drive : {c c' : Cartridge} {h h' : Head} {m m' : Marks} {f : Fault} {r r' : Report} {w w' : Waiting} {rate rom v v' : ℕ} {l l' : Bool}
     → c ≡ c' → h ≡ h' → m ≡ m' → r ≡ r' → w ≡ w' → l ≡ l' → v ≡ v'
-    → _≡_ {A = Drive} (record { cart = c; head = h; marks = m; fault = f; report = r; waiting = w; rate = rate; level = l; vendor = v; rom = rom }) (record { cart = c'; head = h'; marks = m'; fault = f; report = r'; waiting = w'; rate = rate; level = l'; vendor = v'; rom = rom })
+    → driveOf c h m f r w rate l v rom ≡ driveOf c' h' m' f r' w' rate l' v' rom
 same-drive c h m r w l v = rw (c, h, m, r, w, l, v)
 
 pub drive-kept-by-cycle : DriveKeptByCycle
@@ -148,7 +154,8 @@ drive-kept-by-cycle d k f =
     (same-head (two-back (d .head .place) (p .place)) (two-back (d .head .target) (p .target)) (motion-back (d .head .motion)))
     (same-marks (g .0) (g .1 .0) (g .1 .1 .0) (g .1 .1 .1 .0))
     (same-report (bits-back (d .report .left) (d .report .bits) (f .bits) (f .closed)) (g .1 .1 .1 .1))
-    (waiting-back (d .waiting) (f .held) (coded (d .waiting) free (d .marks .referenced) (rules .1)) (few-held (d .waiting) free (d .marks .referenced) (rules .1)))
+    (waiting-back (d .waiting) (f .held) (coded (d .waiting) free (d .marks .referenced) (rules .1))
+    (few-held (d .waiting) free (d .marks .referenced) (rules .1)))
     (one-back (d .level))
     (two-back (d .vendor) (f .vendor))
 

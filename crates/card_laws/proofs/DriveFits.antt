@@ -17,8 +17,11 @@ use Rattle.pulse_parts.specs.declared.marks.Marks.{Marks}
 use Rattle.pulse_parts.specs.declared.reports.Report.{Report}
 use Rattle.pulse_parts.specs.Arguments.{highestNibble, highestRate, inRange, isWaiting, joined, needed, nibbleOf}
 use Rattle.pulse_parts.specs.Cartridges.{noCartridge}
-use Rattle.pulse_parts.specs.Codes.{ignored, isReport, logicalForward, needsCartridge, needsReference, pause, physicalForward, physicalReverse, reportConfiguration, reportError, reportNextBit, reportRom, reportStatus, reportVendor, seekLoadPoint, seekTrack, selectRate, skipExtendedReverse, skipReverse, softReset, stopTape, stopsMotion, supported}
-use Rattle.pulse_parts.specs.Errors.{admittedErrors, cartridgeMissing, illegalInReport, illegalTrack, newCartridgePending, noError, notReady, notReferenced, softwareReset, undefinedCommand}
+use Rattle.pulse_parts.specs.Codes.{ignored, isReport, logicalForward, needsCartridge, needsReference, pause, physicalForward, physicalReverse}
+use Rattle.pulse_parts.specs.Codes.{reportConfiguration, reportError, reportNextBit, reportRom, reportStatus, reportVendor, seekLoadPoint, seekTrack}
+use Rattle.pulse_parts.specs.Codes.{selectRate, skipExtendedReverse, skipReverse, softReset, stopTape, stopsMotion, supported}
+use Rattle.pulse_parts.specs.Errors.{admittedErrors, cartridgeMissing, illegalInReport, illegalTrack, newCartridgePending, noError, notReady}
+use Rattle.pulse_parts.specs.Errors.{notReferenced, softwareReset, undefinedCommand}
 use Rattle.pulse_parts.specs.Faults.{errorHeld}
 use Rattle.pulse_parts.specs.Heads.{atStart, isRun, isStill, standingAt}
 use Rattle.pulse_parts.specs.Marking.{newMarks, noMarks}

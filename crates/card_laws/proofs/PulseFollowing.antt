@@ -38,7 +38,8 @@ record Sound (state : List ℕ) (number : ℕ) (d : Drive) : Type 0 where
 
 sound : {state : List ℕ} {number : ℕ} {d : Drive} {second : ℕ} {holds outside : Bool}
     → Exactly number (not (keepsRules (decodeDrive state))) second holds outside
-    → (keepsRules (decodeDrive state) ≡ true → keepsRules d ≡ true) → (number ≢ notRefused → d ≡ decodeDrive state) → FitsBytes d → Sound state number d
+    → (keepsRules (decodeDrive state) ≡ true → keepsRules d ≡ true) → (number ≢ notRefused → d ≡ decodeDrive state) →
+    FitsBytes d → Sound state number d
 sound e rules kept fits = record { ruly = λ z. rules (not-false _ (e .zero .0 z .0)); kept = kept; fits = fits }
 
 module _ (state : List ℕ) (b : Bytes state) where
@@ -66,10 +67,12 @@ module _ (state : List ℕ) (b : Bytes state) where
 
 -- ---- what is left spells the drive
 
-follows : (state : List ℕ) (number : ℕ) (level : Bool) (ticks : ℕ) (d : Drive) → Sound state number d → decodeDrive (pulseLeft state number level ticks d .state) ≡ d
+follows : (state : List ℕ) (number : ℕ) (level : Bool) (ticks : ℕ) (d : Drive) → Sound state number d →
+    decodeDrive (pulseLeft state number level ticks d .state) ≡ d
 unfolding pulseLeft
 follows state number level ticks d x =
-    either (λ s. decodeDrive s ≡ d) (number ≡ᵇ notRefused) (encodeDrive d) state (λ z. drive-kept-by-cycle d (x .ruly (eqb-true number notRefused z)) (x .fits))
+    either (λ s. decodeDrive s ≡ d) (number ≡ᵇ notRefused) (encodeDrive d) state
+    (λ z. drive-kept-by-cycle d (x .ruly (eqb-true number notRefused z)) (x .fits))
     (λ z. sym (x .kept (eqb-false number notRefused z)))
 
 pub pulse-follows : PulseFollows
@@ -86,7 +89,8 @@ pulse-follows =
 
 -- ---- and what is left are bytes
 
-bytes-left : (state : List ℕ) (number : ℕ) (level : Bool) (ticks : ℕ) (d : Drive) → Bytes state → Sound state number d → Bytes (pulseLeft state number level ticks d .state)
+bytes-left : (state : List ℕ) (number : ℕ) (level : Bool) (ticks : ℕ) (d : Drive) → Bytes state → Sound state number d →
+    Bytes (pulseLeft state number level ticks d .state)
 unfolding pulseLeft
 bytes-left state number level ticks d b x =
     either Bytes (number ≡ᵇ notRefused) (encodeDrive d) state (λ z. encoded-bytes d (x .ruly (eqb-true number notRefused z)) (x .fits)) (λ z. b)
@@ -111,7 +115,8 @@ steps-most zero d = omega arith
 steps-most (suc limit) d =
     either (λ k. k ≤ suc limit) (isReady d) _ _ (λ e. omega arith) (λ e. omega (arith, steps-most limit (ticked d)))
 
-pub ticks-whole : (state : List ℕ) (limit : ℕ) → limit < 2 ^ 32 → countAt (pulseWait state limit .answer) 4 4 ≡ waitCall (decodeDrive state) limit .ticks
+pub ticks-whole : (state : List ℕ) (limit : ℕ) → limit < 2 ^ 32 →
+    countAt (pulseWait state limit .answer) 4 4 ≡ waitCall (decodeDrive state) limit .ticks
 unfolding pulseWait pulseLeft encodeTold
 ticks-whole state limit l =
     let d = decodeDrive state in

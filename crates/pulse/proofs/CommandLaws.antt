@@ -12,7 +12,9 @@ use Rattle.pulse_parts.specs.declared.arguments.Nibble.the-variants.{Value, Out
 use Rattle.pulse_parts.specs.declared.arguments.Waiting.{Waiting}
 use Rattle.pulse_parts.specs.declared.arguments.Waiting.the-variants.{For}
 use Rattle.pulse_parts.specs.Arguments.{joined, needed, nibbleOf}
+use Rattle.pulse_parts.specs.Codes.{logicalForward, pause, physicalForward, physicalReverse, seekLoadPoint, skipExtendedReverse, skipReverse, stopTape}
 use Rattle.pulse_parts.specs.Codes.{needsCartridge, needsReference, stopsMotion}
+use Rattle.pulse_parts.specs.Errors.{cartridgeMissing, newCartridgePending, noError, notReferenced}
 use Rattle.pulse_parts.specs.Faults.{errorHeld}
 use Rattle.pulse_parts.specs.Heads.{isRun, skippedBack, skippedOn}
 use Rattle.pulse_parts.specs.Marking.{commandError}
@@ -33,14 +35,15 @@ module _ (d r x : Drive) (code held low value sum need : ℕ) (u : sum ≡ joine
   nibble-last e w q = rw (← v, e, q, w, u)
 
 module _ (d r : Drive) (n count place : ℕ) (q : r ≡ runStarted d place) where
-  pub skip-back : (n ≡ 25) ⊎ (n ≡ 34) → place ≡ skippedBack (d .head .place) count → r ≡ skipped d n count
+  pub skip-back : (n ≡ skipReverse) ⊎ (n ≡ skipExtendedReverse) → place ≡ skippedBack (d .head .place) count → r ≡ skipped d n count
   unfolding skipped
   skip-back (inl e) p = rw (e, ← p) q
   skip-back (inr e) p = rw (e, ← p) q
 
-  pub skip-on : ((n ≡ 25) ⊎ (n ≡ 34) → ⊥) → place ≡ skippedOn (d .head .place) (d .cart .segments) count → r ≡ skipped d n count
+  pub skip-on : ((n ≡ skipReverse) ⊎ (n ≡ skipExtendedReverse) → ⊥) → place ≡ skippedOn (d .head .place) (d .cart .segments) count →
+      r ≡ skipped d n count
   unfolding skipped
-  skip-on f p = rw (ne-eqb n 25 (λ e. f (inl e)), ne-eqb n 34 (λ e. f (inr e)), ← p) q
+  skip-on f p = rw (ne-eqb n skipReverse (λ e. f (inl e)), ne-eqb n skipExtendedReverse (λ e. f (inr e)), ← p) q
 
 module _ (d r : Drive) (n code held low : ℕ) (x : Nibble) (w : d .waiting ≡ For code held low) (p : x ≡ nibbleOf code n) where
   pub argument-dropped : x ≡ OutOfRange → r ≡ withoutArguments d → r ≡ stepArgument d n
@@ -57,33 +60,34 @@ pub ruleset argumentWays = (nibble-more, nibble-last, skip-back, skip-on, argume
 
 -- ---- commands
 module _ (d r : Drive) (n : ℕ) where
-  pub obey-stop : (n ≡ 3) ⊎ (n ≡ 18) → r ≡ stopped d → r ≡ obeyed d n
+  pub obey-stop : (n ≡ pause) ⊎ (n ≡ stopTape) → r ≡ stopped d → r ≡ obeyed d n
   unfolding obeyed
   obey-stop (inl e) q = rw e q
   obey-stop (inr e) q = rw e q
 
-  pub obey-forward : (n ≡ 10) ⊎ (n ≡ 12) → r ≡ runStarted d (d .cart .segments) → r ≡ obeyed d n
+  pub obey-forward : (n ≡ logicalForward) ⊎ (n ≡ physicalForward) → r ≡ runStarted d (d .cart .segments) → r ≡ obeyed d n
   unfolding obeyed
   obey-forward (inl e) q = rw e q
   obey-forward (inr e) q = rw e q
 
-  pub obey-back : n ≡ 11 → r ≡ runStarted d 0 → r ≡ obeyed d n
+  pub obey-back : n ≡ physicalReverse → r ≡ runStarted d 0 → r ≡ obeyed d n
   unfolding obeyed
   obey-back e q = rw e q
 
-  pub obey-load : n ≡ 14 → r ≡ loadStarted d → r ≡ obeyed d n
+  pub obey-load : n ≡ seekLoadPoint → r ≡ loadStarted d → r ≡ obeyed d n
   unfolding obeyed
   obey-load e q = rw e q
 
-  pub obey-waits : ((n ≡ 3) ⊎ (n ≡ 18) → ⊥) → ((n ≡ 10) ⊎ (n ≡ 12) → ⊥) → (n ≡ 11 → ⊥) → (n ≡ 14 → ⊥) →
+  pub obey-waits : ((n ≡ pause) ⊎ (n ≡ stopTape) → ⊥) → ((n ≡ logicalForward) ⊎ (n ≡ physicalForward) → ⊥) →
+      (n ≡ physicalReverse → ⊥) → (n ≡ seekLoadPoint → ⊥) →
       r ≡ withWaiting d (For n 0 0) → r ≡ obeyed d n
   unfolding obeyed
   obey-waits s f b l q =
       rw (
-        ne-eqb n 3 (λ e. s (inl e)),
-        ne-eqb n 18 (λ e. s (inr e)),
-        ne-eqb n 10 (λ e. f (inl e)),
-        ne-eqb n 12 (λ e. f (inr e)),
+        ne-eqb n pause (λ e. s (inl e)),
+        ne-eqb n stopTape (λ e. s (inr e)),
+        ne-eqb n logicalForward (λ e. f (inl e)),
+        ne-eqb n physicalForward (λ e. f (inr e)),
         ne-eqb _ _ b,
         ne-eqb _ _ l,
       ) q
@@ -96,18 +100,19 @@ module _ (d r : Drive) (n : ℕ) where
 -- an error by three tests, and what is made of it
 module _ {A : Type 0} (fresh missing lost : Bool) (refused : ℕ → A) (obey : A) where
   abbrev errorBy : ℕ
-  errorBy = cond fresh 13 (cond missing 2 (cond lost 19 0))
+  errorBy = cond fresh newCartridgePending (cond missing cartridgeMissing (cond lost notReferenced noError))
 
   abbrev chosen : A
-  chosen = cond fresh (refused 13) (cond missing (refused 2) (cond lost (refused 19) obey))
+  chosen =
+      cond fresh (refused newCartridgePending) (cond missing (refused cartridgeMissing) (cond lost (refused notReferenced) obey))
 
-by-none : {A : Type 0} (f m l : Bool) (e : ℕ → A) (o : A) → errorBy f m l e o ≡ 0 → o ≡ chosen f m l e o
+by-none : {A : Type 0} (f m l : Bool) (e : ℕ → A) (o : A) → errorBy f m l e o ≡ noError → o ≡ chosen f m l e o
 by-none true m l e o q = absurd (omega arith)
 by-none false true l e o q = absurd (omega arith)
 by-none false false true e o q = absurd (omega arith)
 by-none false false false e o q = refl
 
-by-one : {A : Type 0} (f m l : Bool) (e : ℕ → A) (o : A) → (errorBy f m l e o ≡ 0 → ⊥) → e (errorBy f m l e o) ≡ chosen f m l e o
+by-one : {A : Type 0} (f m l : Bool) (e : ℕ → A) (o : A) → (errorBy f m l e o ≡ noError → ⊥) → e (errorBy f m l e o) ≡ chosen f m l e o
 by-one true m l e o q = refl
 by-one false true l e o q = refl
 by-one false false true e o q = refl
@@ -120,11 +125,11 @@ module _ (d r : Drive) (n error : ℕ) (held : Bool) (p : held ≡ errorHeld (d 
   lost : Bool
   lost = needsReference n && not (d .marks .referenced)
 
-  pub check-passed : error ≡ 0 → r ≡ obeyed d n → r ≡ checked d n
+  pub check-passed : error ≡ noError → r ≡ obeyed d n → r ≡ checked d n
   unfolding checked commandError missing lost
   check-passed z e = rw (← p, h, e) (by-none (d .marks .fresh) missing lost (λ k. latched d k n) (obeyed d n) (sym q ∙ z))
 
-  pub check-refused : (error ≡ 0 → ⊥) → r ≡ latched d error n → r ≡ checked d n
+  pub check-refused : (error ≡ noError → ⊥) → r ≡ latched d error n → r ≡ checked d n
   unfolding checked commandError missing lost
   check-refused z e = rw (← p, h, e, q) (by-one (d .marks .fresh) missing lost (λ k. latched d k n) (obeyed d n) (λ y. z (q ∙ y)))
 

@@ -6,7 +6,7 @@ use mathlib.Core.Path.{_≡_}
 use borrow.Author.Tests.{eq-eqb, ne-eqb}
 use Rattle.pulse_parts.specs.declared.marks.Marks.{Marks}
 use Rattle.pulse_parts.specs.declared.reports.Report.{Report}
-use Rattle.pulse_parts.specs.Codes.{ignored}
+use Rattle.pulse_parts.specs.Codes.{ignored, reportConfiguration, reportError, reportNextBit, reportRom, reportStatus, reportVendor}
 use Rattle.pulse_parts.specs.Errors.{illegalInReport, noError}
 use Rattle.pulse_parts.specs.Marking.{markAsked, markFresh}
 use Rattle.pulse_parts.specs.Reports.{configurationBits, errorBits, itemLevel, itemsLeft, noReport, owing, reportOf8, reportOf16}
@@ -26,16 +26,16 @@ module _ (d r : Drive) where
   unfolding itemGiven
   give-next p level x a u v w q = rw (a, q, w, v, u)
 
-  pub report-next : (n : ℕ) → n ≡ 2 → r ≡ itemGiven d → r ≡ stepReport d n
+  pub report-next : (n : ℕ) → n ≡ reportNextBit → r ≡ itemGiven d → r ≡ stepReport d n
   unfolding stepReport
   report-next n e q = rw (eq-eqb _ _ e) q
 
-  pub report-owing : (n : ℕ) (i : Bool) (p : Report) → (n ≡ 2 → ⊥) → i ≡ ignored n → i ≡ true →
+  pub report-owing : (n : ℕ) (i : Bool) (p : Report) → (n ≡ reportNextBit → ⊥) → i ≡ ignored n → i ≡ true →
       p ≡ owing (d .report) true → r ≡ withReport d p → r ≡ stepReport d n
   unfolding stepReport
   report-owing n i p e u a v q = rw (ne-eqb _ _ e, ← u, a, ← v) q
 
-  pub report-broken : (n k : ℕ) (i : Bool) (p : Report) (x y : Drive) → (n ≡ 2 → ⊥) → i ≡ ignored n → i ≡ false →
+  pub report-broken : (n k : ℕ) (i : Bool) (p : Report) (x y : Drive) → (n ≡ reportNextBit → ⊥) → i ≡ ignored n → i ≡ false →
       p ≡ noReport → x ≡ withReport d p → y ≡ withLevel x false → k ≡ n → r ≡ latched y illegalInReport k → r ≡ stepReport d n
   unfolding stepReport
   report-broken n k i p x y e u a v w z t q = rw (ne-eqb _ _ e, ← u, a, q, t, z, w, v)
@@ -51,42 +51,43 @@ module _ (d r : Drive) where
   error-read ready m x p a v u q = rw (← p, a, q, v, u)
 
 module _ (d x y : Drive) (n : ℕ) (p : Report) (u : p ≡ reportOf d n) (v : x ≡ withReport d p) (w : y ≡ withLevel x true) where
-  pub open-status : (r : Drive) → n ≡ 6 → r ≡ statusAsked y → r ≡ stepOpenReport d n
+  pub open-status : (r : Drive) → n ≡ reportStatus → r ≡ statusAsked y → r ≡ stepOpenReport d n
   unfolding stepOpenReport
   open-status r e q = rw (eq-eqb _ _ e, q, w, v, u)
 
-  pub open-error : (r : Drive) → n ≡ 7 → r ≡ errorRead y → r ≡ stepOpenReport d n
+  pub open-error : (r : Drive) → n ≡ reportError → r ≡ errorRead y → r ≡ stepOpenReport d n
   unfolding stepOpenReport
   open-error r e q = rw (e, q, w, v, u, e)
 
-  pub open-plain : (n ≡ 6 → ⊥) → (n ≡ 7 → ⊥) → y ≡ stepOpenReport d n
+  pub open-plain : (n ≡ reportStatus → ⊥) → (n ≡ reportError → ⊥) → y ≡ stepOpenReport d n
   unfolding stepOpenReport
   open-plain a b = rw (ne-eqb _ _ a, ne-eqb _ _ b, w, v, u)
 
 module _ (d : Drive) (r : Report) (n bits : ℕ) where
-  pub of-status : n ≡ 6 → bits ≡ statusBits (d .head) (d .fault) (d .marks) (d .cart) → r ≡ reportOf8 bits → r ≡ reportOf d n
+  pub of-status : n ≡ reportStatus → bits ≡ statusBits (d .head) (d .fault) (d .marks) (d .cart) → r ≡ reportOf8 bits → r ≡ reportOf d n
   unfolding reportOf
   of-status e p q = rw (e, q, p)
 
-  pub of-error : n ≡ 7 → bits ≡ errorBits (d .fault) → r ≡ reportOf16 bits → r ≡ reportOf d n
+  pub of-error : n ≡ reportError → bits ≡ errorBits (d .fault) → r ≡ reportOf16 bits → r ≡ reportOf d n
   unfolding reportOf
   of-error e p q = rw (e, q, p)
 
-  pub of-configuration : n ≡ 8 → bits ≡ configurationBits (d .rate) (d .marks) (d .cart) → r ≡ reportOf8 bits → r ≡ reportOf d n
+  pub of-configuration : n ≡ reportConfiguration → bits ≡ configurationBits (d .rate) (d .marks) (d .cart) → r ≡ reportOf8 bits → r ≡ reportOf d n
   unfolding reportOf
   of-configuration e p q = rw (e, q, p)
 
-  pub of-tape : (n ≡ 6 → ⊥) → (n ≡ 7 → ⊥) → (n ≡ 8 → ⊥) → (n ≡ 9 → ⊥) → (n ≡ 32 → ⊥) →
+  pub of-tape : (n ≡ reportStatus → ⊥) → (n ≡ reportError → ⊥) → (n ≡ reportConfiguration → ⊥) → (n ≡ reportRom → ⊥) →
+      (n ≡ reportVendor → ⊥) →
       bits ≡ tapeBits (d .marks) (d .cart) → r ≡ reportOf8 bits → r ≡ reportOf d n
   unfolding reportOf
   of-tape a b c e f p q = rw (ne-eqb _ _ a, ne-eqb _ _ b, ne-eqb _ _ c, ne-eqb _ _ e, ne-eqb _ _ f, q, p)
 
 module _ (d : Drive) (r : Report) (n : ℕ) where
-  pub of-rom : n ≡ 9 → r ≡ reportOf8 (d .rom) → r ≡ reportOf d n
+  pub of-rom : n ≡ reportRom → r ≡ reportOf8 (d .rom) → r ≡ reportOf d n
   unfolding reportOf
   of-rom e q = rw (e, q)
 
-  pub of-vendor : n ≡ 32 → r ≡ reportOf16 (d .vendor) → r ≡ reportOf d n
+  pub of-vendor : n ≡ reportVendor → r ≡ reportOf16 (d .vendor) → r ≡ reportOf d n
   unfolding reportOf
   of-vendor e q = rw (e, q)
 

@@ -7,7 +7,7 @@ use borrow.Author.Tests.{eq-eqb, ne-eqb}
 use Rattle.pulse_parts.specs.declared.marks.Marks.{Marks}
 use Rattle.pulse_parts.specs.declared.reports.Report.{Report}
 use Rattle.pulse_parts.specs.Arguments.{isWaiting}
-use Rattle.pulse_parts.specs.Codes.{softReset, supported, isReport}
+use Rattle.pulse_parts.specs.Codes.{isReport, reportNextBit, softReset, supported}
 use Rattle.pulse_parts.specs.Errors.{softwareReset}
 use Rattle.pulse_parts.specs.Marking.{markAsked, markReferenced}
 use Rattle.pulse_parts.specs.Reports.{isOpen, noReport}
@@ -22,11 +22,11 @@ pub clears : (d r x y z : Drive) (p : Report) (m : Marks) → x ≡ withoutArgum
     z ≡ withFault y softwareReset softReset → m ≡ markAsked (markReferenced (d .marks) false) false → r ≡ withMarks z m → r ≡ cleared d
 clears d r x y z p m a b c e f q = rw (q, f, e, c, b, a)
 
-pub to-reset : (d r : Drive) (n : ℕ) → n ≡ 1 → r ≡ stepReset d → r ≡ trainStep d n
+pub to-reset : (d r : Drive) (n : ℕ) → n ≡ softReset → r ≡ stepReset d → r ≡ trainStep d n
 unfolding trainStep
 to-reset d r n e q = rw (e, q)
 
-module _ (d r : Drive) (n : ℕ) (w : Bool) (a : n ≡ 1 → ⊥) (p : w ≡ isWaiting (d .waiting)) where
+module _ (d r : Drive) (n : ℕ) (w : Bool) (a : n ≡ softReset → ⊥) (p : w ≡ isWaiting (d .waiting)) where
   pub to-argument : w ≡ true → r ≡ stepArgument d n → r ≡ trainStep d n
   unfolding trainStep
   to-argument e q = rw (q, ne-eqb _ _ a, ← p, e)
@@ -37,11 +37,11 @@ module _ (d r : Drive) (n : ℕ) (w : Bool) (a : n ≡ 1 → ⊥) (p : w ≡ isW
     to-report e q = rw (q, ne-eqb _ _ a, ← p, x, ← p2, e)
 
     module _ (x2 : o ≡ false) where
-      pub to-next : n ≡ 2 → r ≡ stepNextBit d → r ≡ trainStep d n
+      pub to-next : n ≡ reportNextBit → r ≡ stepNextBit d → r ≡ trainStep d n
       unfolding trainStep
       to-next e q = rw (q, ne-eqb _ _ a, ← p, x, ← p2, x2, eq-eqb _ _ e)
 
-      module _ (b : n ≡ 2 → ⊥) (u : Bool) (p3 : u ≡ not (supported n)) where
+      module _ (b : n ≡ reportNextBit → ⊥) (u : Bool) (p3 : u ≡ not (supported n)) where
         pub to-unsupported : u ≡ true → r ≡ stepUnsupported d n → r ≡ trainStep d n
         unfolding trainStep
         to-unsupported e q = rw (q, ne-eqb _ _ a, ← p, x, ← p2, x2, ne-eqb _ _ b, ← p3, e)

@@ -29,14 +29,14 @@ runStarted d target =
     if d .head .place ≡ᵇ target then stopped d else
     withHead d (headedFor (d .head) target Run)
 
--- 01: "The first error stays until read"; "An error latched stops any motion but a load."
+-- 01: "The first error stays until read"; "An error latched stops any motion but a load.", which is a run
 unfoldable pub latched : Drive → ℕ → ℕ → Drive
 latched d error command =
     if errorHeld (d .fault) then d else
     if isRun (d .head .motion) then stopped (withFault d error command) else
     withFault d error command
 
--- how each motion ends
+-- how each motion ends: a run by a stop, a load as 01 says of it
 abbrev pub motionEnded : Motion → Drive → Drive
 motionEnded Still d = d
 motionEnded Run d = stopped d

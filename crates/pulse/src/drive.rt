@@ -39,7 +39,7 @@ impl Drive {
 
     pub const MAX_KIND: u8 = 7;
 
-    pub const POWER_ON_RATE: u8 = 2;
+    const POWER_ON_RATE: u8 = 2;
 
     pub fn power_on(vendor: u16, rom: u8) -> Self
         ensures { λ r. ⌜ PowerOnPromise vendor rom r ⌝ }

@@ -28,7 +28,8 @@ use Rattle.pulse_laws.proofs.Rules.{Calm, Cart, Rules, Waits, bare, ful
 use Rattle.pulse_laws.proofs.Idle.{Idle, idle-rules, latch-idle, run-idle}
 
 -- a code that waits for arguments, and neither seeks a track nor selects a rate, skips
-skips : (code held : ℕ) → (held <ᵇ needed code) ≡ true → (code ≡ᵇ seekTrack) ≡ false → (code ≡ᵇ selectRate) ≡ false → isSkip code ≡ true
+skips : (code held : ℕ) → (held <ᵇ needed code) ≡ true → (code ≡ᵇ seekTrack) ≡ false → (code ≡ᵇ selectRate) ≡ false →
+    isSkip code ≡ true
 unfolding needed
 skips code held l p q =
     test ((code ≡ᵇ skipReverse) || (code ≡ᵇ skipForward)) (λ a. rw a)
@@ -51,7 +52,8 @@ module _ (d : Drive) (code held low : ℕ) (r : Calm d) (w : Waits (For code hel
   has-cart : ((code ≡ᵇ seekTrack) || isSkip code) ≡ true → d .marks .inside ≡ true
   has-cart e = by (r .cart)
     where
-      by : Cart (d .cart) (d .head .place) (d .head .target) (d .head .track) (d .marks .inside) (d .marks .referenced) (d .marks .fresh) → d .marks .inside ≡ true
+      by : Cart (d .cart) (d .head .place) (d .head .target) (d .head .track) (d .marks .inside) (d .marks .referenced) (d .marks .fresh) →
+          d .marks .inside ≡ true
       by (full p x) = p
       by (bare p x) = never (referenced e) (x .referenced)
 

@@ -9,7 +9,8 @@ use Rattle.pulse_parts.specs.declared.cartridge.Cartridge.{Cartridge}
 use Rattle.pulse.specs.declared.calls.Step.{Step}
 use Rattle.pulse.specs.declared.calls.Waited.{Waited}
 use Rattle.pulse.specs.declared.drive.Drive.{Drive}
-use Rattle.pulse.specs.Calls.{accepted, acceptedWait, alreadySo, rulesBroken, emptyTrain, insertCall, outsideRanges, refused, refusedWait, removeCall, tickCall, trainCall, waitCall}
+use Rattle.pulse.specs.Calls.{accepted, acceptedWait, alreadySo, rulesBroken, emptyTrain, insertCall, outsideRanges, refused, refusedWait}
+use Rattle.pulse.specs.Calls.{removeCall, tickCall, trainCall, waitCall}
 use Rattle.pulse.specs.Events.{inserted, removed, runFor, stepsTo}
 use Rattle.pulse.specs.Motions.{ticked}
 use Rattle.pulse.specs.Rules.{keepsRules}

@@ -10,7 +10,9 @@ use Rattle.numbers.specs.Member.{isIn}
 use Rattle.numbers.proofs.Cases.{allBelow, and-r, below, either, no-l, or-by}
 use Rattle.pulse_parts.specs.declared.arguments.Waiting.the-variants.{For}
 use Rattle.pulse_parts.specs.Arguments.{needed}
-use Rattle.pulse_parts.specs.Codes.{between, isReport, isSkip, logicalForward, needsCartridge, needsReference, pause, physicalForward, physicalReverse, reportNextBit, reportStatus, reportVendor, seekLoadPoint, seekTrack, selectRate, skipExtendedForward, skipReverse, softReset, stopTape, stopsMotion, supported}
+use Rattle.pulse_parts.specs.Codes.{between, isReport, isSkip, logicalForward, needsCartridge, needsReference, pause, physicalForward}
+use Rattle.pulse_parts.specs.Codes.{physicalReverse, reportNextBit, reportStatus, reportVendor, seekLoadPoint, seekTrack, selectRate}
+use Rattle.pulse_parts.specs.Codes.{skipExtendedForward, skipReverse, softReset, stopTape, stopsMotion, supported}
 use Rattle.pulse_parts.specs.Errors.{admitted, cartridgeMissing, newCartridgePending, notReady, notReferenced}
 use Rattle.pulse_parts.specs.Faults.{errorHeld}
 use Rattle.pulse_parts.specs.Heads.{isRun}
@@ -56,10 +58,11 @@ goes n = (n ≡ᵇ logicalForward) || (n ≡ᵇ physicalForward)
 
 abbrev takesArguments : ℕ → Bool
 takesArguments n =
-    not (supported n) || isReport n || (n ≡ᵇ softReset) || (n ≡ᵇ reportNextBit) || stops n || goes n || (n ≡ᵇ physicalReverse) || (n ≡ᵇ seekLoadPoint)
-    || (0 <ᵇ needed n)
+    not (supported n) || isReport n || (n ≡ᵇ softReset) || (n ≡ᵇ reportNextBit) || stops n || goes n || (n ≡ᵇ physicalReverse)
+    || (n ≡ᵇ seekLoadPoint) || (0 <ᵇ needed n)
 
-takes : (n : ℕ) → Command n → stops n ≡ false → goes n ≡ false → (n ≡ᵇ physicalReverse) ≡ false → (n ≡ᵇ seekLoadPoint) ≡ false → (0 <ᵇ needed n) ≡ true
+takes : (n : ℕ) → Command n → stops n ≡ false → goes n ≡ false → (n ≡ᵇ physicalReverse) ≡ false →
+    (n ≡ᵇ seekLoadPoint) ≡ false → (0 <ᵇ needed n) ≡ true
 unfolding needed allBelow
 takes n c p q r s =
     rw (c .known, c .report, c .reset, c .next, p, q, r, s) at (below 36 takesArguments refl n (supported-low n (c .known)))
@@ -72,7 +75,8 @@ unless true y e = or-false y ∙ not-false y e
 unless false y e = or-true y
 
 module _ (d : Drive) (n : ℕ) (i : Idle d) (c : Command n) (shut : isOpen (d .report) ≡ false) where
-  obey-rules : isReady d ≡ true → errorHeld (d .fault) ≡ false → d .marks .fresh ≡ false → (needsCartridge n && not (d .marks .inside)) ≡ false →
+  obey-rules : isReady d ≡ true → errorHeld (d .fault) ≡ false → d .marks .fresh ≡ false →
+      (needsCartridge n && not (d .marks .inside)) ≡ false →
       (needsReference n && not (d .marks .referenced)) ≡ false → Rules (obeyed d n)
   unfolding obeyed
   obey-rules y f m p q =

@@ -43,5 +43,6 @@ run-waiting d t = either (Awaits (d .waiting)) (d .head .place ≡ᵇ t) _ _ (λ
 pub latch-idle : (d : Drive) (e n : ℕ) → admitted e ≡ true → Idle d → Idle (latched d e n)
 latch-idle d e n a r = (latch-calm d e n a (r .0), latch-waiting d e n ∙ r .1)
 
-pub run-idle : (d : Drive) (t : ℕ) → Idle d → d .marks .inside ≡ true → t ≤ d .cart .segments → errorHeld (d .fault) ≡ false → Idle (runStarted d t)
+pub run-idle : (d : Drive) (t : ℕ) → Idle d → d .marks .inside ≡ true → t ≤ d .cart .segments → errorHeld (d .fault) ≡ false →
+    Idle (runStarted d t)
 run-idle d t r i l f = (run-calm d t (r .0) i l f, run-waiting d t ∙ r .1)

@@ -94,14 +94,16 @@ load-calm d r i =
     (λ e. head-calm d (headedFor (d .head) 0 Load) r (full i (aimed-within 0 (omega arith) (within (r .cart) i)))
     (loads refl refl (eqb-false _ _ e)) (or-true (not (errorHeld (d .fault)))))
 
-pub run-calm : (d : Drive) (t : ℕ) → Calm d → d .marks .inside ≡ true → t ≤ d .cart .segments → errorHeld (d .fault) ≡ false → Calm (runStarted d t)
+pub run-calm : (d : Drive) (t : ℕ) → Calm d → d .marks .inside ≡ true → t ≤ d .cart .segments → errorHeld (d .fault) ≡ false →
+    Calm (runStarted d t)
 unfolding runStarted
 run-calm d t r i l f =
     either Calm (d .head .place ≡ᵇ t) _ _ (λ e. stop-calm d r)
     (λ e. head-calm d (headedFor (d .head) t Run) r (full i (aimed-within t l (within (r .cart) i))) (runs refl (eqb-false _ _ e)) (rw f))
 
 -- the end of a motion has what each motion's end has
-pub ended : (P : Drive → Type 0) (m : Motion) (d : Drive) → (m ≡ Still → P d) → (m ≡ Run → P (stopped d)) → (m ≡ Load → P (loadEnded d)) → P (motionEnded m d)
+pub ended : (P : Drive → Type 0) (m : Motion) (d : Drive) → (m ≡ Still → P d) → (m ≡ Run → P (stopped d)) →
+    (m ≡ Load → P (loadEnded d)) → P (motionEnded m d)
 ended P Still d s r l = s refl
 ended P Run d s r l = r refl
 ended P Load d s r l = l refl

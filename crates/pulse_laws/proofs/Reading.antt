@@ -110,7 +110,8 @@ pub record Stood (told : List Step) (last : Drive) (k : ℕ) (h : Head) : Type 0
 pub still-ready : (h x : Head) → x ≡ h → isStill (h .motion) ≡ true → isStill (x .motion) ≡ true
 still-ready h x p e = ap (λ (z : Head). isStill (z .motion)) p ∙ e
 
-pub stood : (d : Drive) (ns : List ℕ) → Idle d → isReady d ≡ true → allRead ns ≡ true → Stood (answers d ns) (afterTrains d ns) (length ns) (d .head)
+pub stood : (d : Drive) (ns : List ℕ) → Idle d → isReady d ≡ true → allRead ns ≡ true →
+    Stood (answers d ns) (afterTrains d ns) (length ns) (d .head)
 unfolding answers afterTrains
 stood d [] i y a = record { numbers = refl; heads = refl; idle = i; head = refl }
 stood d (n ∷ ns) i y a =

@@ -96,7 +96,8 @@ one-more k s t = test (s ≤ᵇ t) up down
 
 none-yet : (s t : ℕ) → s ≡ placeAfter 0 s t
 none-yet s t =
-    test (s ≤ᵇ t) (λ e. let l = leb-true s t e in rw (after-up 0 s t l) (omega arith)) (λ e. let l = leb-false s t e in rw (after-down 0 s t l) (omega arith))
+    test (s ≤ᵇ t) (λ e. let l = leb-true s t e in rw (after-up 0 s t l) (omega arith))
+    (λ e. let l = leb-false s t e in rw (after-down 0 s t l) (omega arith))
 
 run-place : (k : ℕ) (d : Drive) → Rules d →
     (runFor k d .head .place ≡ placeAfter k (d .head .place) (d .head .target)) × (runFor k d .head .target ≡ d .head .target)

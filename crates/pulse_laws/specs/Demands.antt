@@ -18,7 +18,7 @@ use Rattle.pulse.specs.Calls.{alreadySo, emptyTrain, insertCall, notRefused, re
 use Rattle.pulse.specs.Calls.{InsertPromise, PowerOnPromise, RemovePromise, TickPromise, TrainPromise, WaitPromise}
 use Rattle.pulse.specs.Drives.{isReady, powerOn}
 use Rattle.pulse.specs.Rules.{keepsRules, maxSegments}
-use Rattle.pulse_laws.specs.Plates.{every, plates}
+use Rattle.pulse_laws.specs.Plates.{allPrint, plates}
 use Rattle.pulse_laws.specs.Runs.{Exactly, KeepsIfRefused, NotStarted, Reachable, namesLevel, outsideItsRanges}
 use Rattle.pulse_laws.specs.Runs.{afterPaced, afterTicks, afterTrains, answers, distance, pacedAnswers, placeAfter}
 use Rattle.pulse_laws.specs.Runs.{beforeErrorReport, recoveryTrains, silentTicks, spelled}
@@ -125,4 +125,4 @@ pub record Settled : Type 0 where
 
 -- 01: "A small set is proved together as one table (*)"
 abbrev pub PlatesPrint : Type 0
-PlatesPrint = every plates ≡ true
+PlatesPrint = allPrint plates ≡ true

@@ -67,6 +67,6 @@ prints p =
     && (afterTrains (p .drive) (p .trains) .report .left ≡ᵇ p .itemsLeft)
     && (afterTrains (p .drive) (p .trains) .head .target ≡ᵇ p .target)
 
-unfoldable pub every : List Plate → Bool
-every [] = true
-every (p ∷ ps) = prints p && every ps
+unfoldable pub allPrint : List Plate → Bool
+allPrint [] = true
+allPrint (p ∷ ps) = prints p && allPrint ps

@@ -24,7 +24,7 @@ markFresh m x = record { inside = m .inside; referenced = m .referenced; fresh =
 abbrev pub markAsked : Marks → Bool → Marks
 markAsked m x = record { inside = m .inside; referenced = m .referenced; fresh = m .fresh; asked = x }
 
--- 01: "New mark: 13. No cartridge (10-14, skips): 2. Not referenced (10, 13, skips): 19."
+-- what the marks refuse a command for, or 0. 01: "New mark: 13. No cartridge (10-14, skips): 2. Not referenced (10, 13, skips): 19."
 unfoldable pub commandError : Marks → ℕ → ℕ
 commandError m n =
     if m .fresh then newCartridgePending else

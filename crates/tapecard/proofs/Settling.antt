@@ -5,7 +5,8 @@ use Prim.Native.Nat.{ℕ}
 use Rattle.numbers.specs.Outcomes.{Settles}
 use Rattle.numbers.proofs.Cases.{settles}
 use Rattle.tapecard.specs.PacketCalls.{PacketCallPromise, PacketChangePromise, PacketFreshPromise, packetCall, packetChange, packetFresh}
-use Rattle.tapecard.specs.PulseCalls.{PulseInsertPromise, PulsePowerOnPromise, PulseRemovePromise, PulseTickPromise, PulseTrainPromise, PulseWaitPromise}
+use Rattle.tapecard.specs.PulseCalls.{PulseInsertPromise, PulsePowerOnPromise, PulseRemovePromise}
+use Rattle.tapecard.specs.PulseCalls.{PulseTickPromise, PulseTrainPromise, PulseWaitPromise}
 use Rattle.tapecard.specs.PulseCalls.{pulseInsert, pulsePowerOn, pulseRemove, pulseTick, pulseTrain, pulseWait}
 
 pub fresh-settled : Settles PacketFreshPromise

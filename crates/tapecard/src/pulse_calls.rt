@@ -1,7 +1,8 @@
 // The calls of the pulse drive.
 ghost use mathlib.Core.Path.{_≡_};
 ghost use Rattle.tapecard.specs.PulseCalls.{pulseCard, pulseLeft};
-ghost use Rattle.tapecard.specs.PulseCalls.{PulsePowerOnPromise, PulseTrainPromise, PulseTickPromise, PulseInsertPromise, PulseRemovePromise, PulseWaitPromise};
+ghost use Rattle.tapecard.specs.PulseCalls.{PulsePowerOnPromise, PulseTrainPromise, PulseTickPromise};
+ghost use Rattle.tapecard.specs.PulseCalls.{PulseInsertPromise, PulseRemovePromise, PulseWaitPromise};
 use pulse::Drive;
 use pulse_record::decode_drive;
 use pulse_record::described_cartridge;
