@@ -24,7 +24,6 @@ use Rattle.pulse_parts.specs.declared.marks.Marks.{Marks}
 use Rattle.pulse_parts.specs.declared.reports.Report.{Report}
 use Rattle.pulse_parts.specs.Arguments.{needed, waitingFits}
 use Rattle.pulse_parts.specs.Codes.{seekTrack, selectRate, skipReverse, skipForward, skipExtendedReverse, skipExtendedForward}
-use Rattle.pulse.specs.declared.drive.Drive.{Drive}
 use Rattle.pulse.specs.Drives.{driveOf}
 use Rattle.pulse.specs.Rules.{isFree}
 use Rattle.pulse_laws.proofs.Rules.{Cart, full, bare, to-rules}

@@ -5,7 +5,7 @@ use native.Mathlib.Omega.{arith}
 use mathlib.Core.Bool.{Bool, true, false, not, cond, _&&_}
 use mathlib.Core.Logic.{_⊎_, inl, inr}
 use mathlib.Core.Path.{_≡_, refl, sym, _∙_, ap}
-use borrow.Author.Tests.{eq-eqb, ne-eqb}
+use borrow.Author.Tests.{ne-eqb}
 use Rattle.numbers.specs.Choice.{_<ᵇ_}
 use Rattle.pulse_parts.specs.declared.arguments.Nibble.{Nibble}
 use Rattle.pulse_parts.specs.declared.arguments.Nibble.the-variants.{Value, OutOfRange}

@@ -1,7 +1,7 @@
 -- A report's items, and the bits of each report (000, table 2c).
 -- Assumes nothing.
 use Prim.Native.Nat.{ℕ, _+_, _-_, _*_, _/_, _%_}
-use mathlib.Core.Bool.{Bool, true, false, not, _&&_, _||_}
+use mathlib.Core.Bool.{Bool, false, not, _&&_, _||_}
 use Rattle.numbers.specs.Choice.{if_then_else_, _≡ᵇ_, _<ᵇ_, _≤ᵇ_}
 use Rattle.numbers.specs.Flags.{weightOf}
 use Rattle.pulse_parts.specs.Heads.{isStill}

@@ -26,7 +26,7 @@ const SKIP_REVERSE: u16 = 25;
 
 const SKIP_FORWARD: u16 = 26;
 
-pub const SELECT_RATE: u16 = 27;
+pub(crate) const SELECT_RATE: u16 = 27;
 
 pub const REPORT_VENDOR: u16 = 32;
 
@@ -36,7 +36,7 @@ const SKIP_EXTENDED_REVERSE: u16 = 34;
 
 const SKIP_EXTENDED_FORWARD: u16 = 35;
 
-pub fn is_supported(n: u16) -> bool
+fn is_supported(n: u16) -> bool
     ensures { λ r. ⌜ r ≡ supported n ⌝ }
 {
     ((SOFT_RESET <= n) & (n <= PAUSE))
@@ -64,7 +64,7 @@ pub fn is_report(n: u16) -> bool
     ((REPORT_STATUS <= n) & (n <= REPORT_ROM)) | (n == REPORT_VENDOR) | (n == REPORT_TAPE)
 }
 
-pub fn is_skip(n: u16) -> bool
+pub(crate) fn is_skip(n: u16) -> bool
     ensures { λ r. ⌜ r ≡ isSkip n ⌝ }
 {
     (n == SKIP_REVERSE)
@@ -73,19 +73,19 @@ pub fn is_skip(n: u16) -> bool
         | (n == SKIP_EXTENDED_FORWARD)
 }
 
-pub fn stops_motion(n: u16) -> bool
+pub(crate) fn stops_motion(n: u16) -> bool
     ensures { λ r. ⌜ r ≡ stopsMotion n ⌝ }
 {
     (n == PAUSE) | (n == STOP_TAPE) | is_skip(n)
 }
 
-pub fn needs_cartridge(n: u16) -> bool
+pub(crate) fn needs_cartridge(n: u16) -> bool
     ensures { λ r. ⌜ r ≡ needsCartridge n ⌝ }
 {
     ((LOGICAL_FORWARD <= n) & (n <= SEEK_LOAD_POINT)) | is_skip(n)
 }
 
-pub fn needs_reference(n: u16) -> bool
+pub(crate) fn needs_reference(n: u16) -> bool
     ensures { λ r. ⌜ r ≡ needsReference n ⌝ }
 {
     (n == LOGICAL_FORWARD) | (n == SEEK_TRACK) | is_skip(n)

@@ -20,7 +20,7 @@ pub struct Head {
     pub motion: Motion,
 }
 
-pub fn is_still(m: Motion) -> bool
+fn is_still(m: Motion) -> bool
     ensures { λ r. ⌜ r ≡ isStill m ⌝ }
 {
     match m {
@@ -30,7 +30,7 @@ pub fn is_still(m: Motion) -> bool
     }
 }
 
-pub fn is_run(m: Motion) -> bool
+fn is_run(m: Motion) -> bool
     ensures { λ r. ⌜ r ≡ isRun m ⌝ }
 {
     match m {
@@ -40,7 +40,7 @@ pub fn is_run(m: Motion) -> bool
     }
 }
 
-pub fn motion_fits(m: Motion, place: u16, target: u16) -> bool
+fn motion_fits(m: Motion, place: u16, target: u16) -> bool
     ensures { λ r. ⌜ r ≡ motionFits m place target ⌝ }
 {
     let there = place == target;
@@ -119,7 +119,7 @@ pub fn headed_for(h: Head, target: u16, motion: Motion) -> Head
     }
 }
 
-pub fn stood_at(h: Head, place: u16) -> Head
+fn stood_at(h: Head, place: u16) -> Head
     ensures { λ r. ⌜ r ≡ stoodAt h place ⌝ }
 {
     let mut next = h;
@@ -135,7 +135,7 @@ pub fn on_track(h: Head, track: u8) -> Head
     next
 }
 
-pub fn toward_target(place: u16, target: u16) -> u16
+fn toward_target(place: u16, target: u16) -> u16
     ensures { λ r. ⌜ r ≡ toward place target ⌝ }
 {
     if place < target {

@@ -1,6 +1,5 @@
 -- `step_report` meets its contract.
 -- Assumes nothing.
-use borrow.Author.Needs.{needs}
 use mathlib.Core.Path.{sym, _∙_}
 use Rattle.pulse_parts.proofs.CodeLaws.{heard-byte}
 use Rattle.pulse.proofs.ReportLaws.{reportWays}

@@ -1,6 +1,5 @@
 -- `train_step` meets its contract.
 -- Assumes nothing.
-use borrow.Author.Needs.{needs}
 use mathlib.Core.Path.{sym, _∙_}
 use Rattle.pulse_parts.proofs.CodeLaws.{supported-byte}
 use Rattle.pulse.proofs.TrainLaws.{trainWays}
