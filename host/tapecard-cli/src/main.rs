@@ -1,32 +1,11 @@
 //! The command `tapecard`: cartridge images, packets and pulses at a terminal.
 
-mod args;
-mod catalogue;
+mod command_line;
 mod commands;
-mod drive;
-mod failure;
-mod get;
-mod header;
-mod help;
-mod hex;
-mod image_file;
-mod info;
-mod label;
-mod list;
-mod new;
-mod packet_cmd;
-mod packets;
-mod progress;
-mod pulse_cmd;
-mod pulse_line;
-mod pulse_state;
-mod put;
-mod record_file;
-mod recover;
-mod reports;
-mod script;
-mod strip;
-mod whole_file;
+mod files;
+mod pulses;
+mod tape;
+mod terminal;
 mod words;
 
 use std::env;

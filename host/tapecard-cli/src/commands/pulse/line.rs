@@ -2,7 +2,7 @@
 
 use tapecard::pulse::Cartridge;
 
-use crate::failure::Failure;
+use crate::command_line::failure::Failure;
 use crate::words;
 
 /// A cartridge has at most 4,095 segments, so nobody needs more of anything at once.

@@ -3,11 +3,12 @@
 use std::io::Write;
 use std::path::Path;
 
-use crate::args::Args;
-use crate::drive::Drive;
-use crate::failure::Failure;
-use crate::header::{Header, LARGEST_CAPACITY};
-use crate::{whole_file, words};
+use crate::command_line::args::Args;
+use crate::command_line::failure::Failure;
+use crate::files::whole_file;
+use crate::tape::drive::Drive;
+use crate::tape::header::{Header, LARGEST_CAPACITY};
+use crate::words;
 
 const USUAL_CAPACITY: u32 = 1024;
 /// A cartridge warns in its last sixteenth unless told otherwise.

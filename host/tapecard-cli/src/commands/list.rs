@@ -3,10 +3,11 @@
 use std::io::Write;
 use std::path::Path;
 
-use crate::args::Args;
-use crate::catalogue::catalogue;
-use crate::failure::Failure;
-use crate::{image_file, words};
+use crate::command_line::args::Args;
+use crate::command_line::failure::Failure;
+use crate::files::image_file;
+use crate::tape::catalogue::catalogue;
+use crate::words;
 
 pub fn run(args: &Args, out: &mut dyn Write) -> Result<(), Failure> {
     let path = Path::new(args.operand(0, "the image")?);

@@ -1,60 +1,57 @@
 //! The packets that the file commands send.
 
+use tapecard::bytes::{length, opcode, page, space};
+
 pub type Packet = [u8; 12];
 
-/// Bytes that [`mode_sense`] asks for: the header and page 2Ah.
-pub const MODE_LENGTH: usize = 32;
-/// Bytes that [`request_sense`] asks for.
-pub const SENSE_LENGTH: usize = 20;
-
 pub fn test_unit_ready() -> Packet {
-    [0; 12]
+    packet(opcode::TEST_UNIT_READY, 0, 0)
 }
 
 pub fn rewind() -> Packet {
-    packet(0x01, 0, 0)
+    packet(opcode::REWIND, 0, 0)
 }
 
 pub fn request_sense() -> Packet {
-    let mut bytes = packet(0x03, 0, 0);
-    bytes[4] = SENSE_LENGTH as u8;
+    let mut bytes = packet(opcode::REQUEST_SENSE, 0, 0);
+    bytes[4] = length::SENSE as u8;
     bytes
 }
 
 /// READ in fixed blocks.
 pub fn read(blocks: u32) -> Packet {
-    packet(0x08, 1, blocks)
+    packet(opcode::READ, 1, blocks)
 }
 
 /// WRITE in fixed blocks.
 pub fn write(blocks: u32) -> Packet {
-    packet(0x0A, 1, blocks)
+    packet(opcode::WRITE, 1, blocks)
 }
 
 pub fn write_filemark() -> Packet {
-    packet(0x10, 0, 1)
+    packet(opcode::WRITE_FILEMARK, 0, 1)
 }
 
 /// SPACE to just beyond the next filemark.
 pub fn space_beyond_filemark() -> Packet {
-    packet(0x11, 1, 1)
+    packet(opcode::SPACE, space::FILEMARKS, 1)
 }
 
 pub fn space_to_end_of_data() -> Packet {
-    packet(0x11, 3, 0)
+    packet(opcode::SPACE, space::END_OF_DATA, 0)
 }
 
 pub fn locate(place: u32) -> Packet {
-    let mut bytes = packet(0x2B, 0, 0);
+    let mut bytes = packet(opcode::LOCATE, 0, 0);
     bytes[3..7].copy_from_slice(&place.to_be_bytes());
     bytes
 }
 
 /// MODE SENSE for page 2Ah.
 pub fn mode_sense() -> Packet {
-    let mut bytes = packet(0x1A, 0, 0);
-    bytes[2] = 0x2A;
-    bytes[4] = MODE_LENGTH as u8;
+    let mut bytes = packet(opcode::MODE_SENSE, 0, 0);
+    bytes[2] = page::CODE;
+    bytes[4] = length::MODE_WITH_PAGE as u8;
     bytes
 }
 

@@ -5,7 +5,7 @@ use std::ops::RangeInclusive;
 use std::os::unix::ffi::OsStrExt;
 use std::path::Path;
 
-use crate::failure::Failure;
+use crate::command_line::failure::Failure;
 use crate::words;
 
 /// The options that a command knows.

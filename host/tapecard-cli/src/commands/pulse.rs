@@ -1,16 +1,22 @@
 //! `tapecard pulse`: a session with the pulse drive, line by line.
 
+mod line;
+
 use std::io::Write;
 
 use tapecard::Refusal;
+use tapecard::bytes::train;
 use tapecard::pulse::{Level, Record};
 
-use crate::args::Args;
-use crate::failure::Failure;
-use crate::pulse_line::{self, Line, Trains};
-use crate::reports::{self, Heard, Listener};
-use crate::script::{self, Flow};
-use crate::{help, pulse_state, record_file, words};
+use crate::command_line::args::Args;
+use crate::command_line::failure::Failure;
+use crate::commands::help;
+use crate::files::record_file;
+use crate::pulses::reports::{self, Heard, Listener};
+use crate::pulses::state;
+use crate::terminal::script::{self, Flow};
+use crate::words;
+use line::{Line, Trains};
 
 /// Levels shown of a train that is sent very often.
 const SHOWN_LEVELS: usize = 64;
@@ -22,7 +28,7 @@ pub fn run(args: &Args, out: &mut dyn Write) -> Result<(), Failure> {
         listener: Listener::default(),
         refused: 0,
     };
-    writeln!(out, "drive    {}", pulse_state::summary(&session.record))?;
+    writeln!(out, "drive    {}", state::summary(&session.record))?;
     script::each_line("pulse", out, |line, out| session.line(line, out))?;
     record_file::save(args.path("--record"), &session.record.0)?;
     match session.refused {
@@ -53,7 +59,7 @@ struct Session {
 
 impl Session {
     fn line(&mut self, line: &str, out: &mut dyn Write) -> Result<Flow, Failure> {
-        match pulse_line::read(line)? {
+        match line::read(line)? {
             Line::Trains(list) => {
                 for trains in &list {
                     self.trains(trains, out)?;
@@ -68,7 +74,7 @@ impl Session {
             }
             Line::Remove => self.call("remove", out, |record| record.remove().map(drop))?,
             Line::Wait(limit) => self.wait(limit, out)?,
-            Line::State => say_all(out, &pulse_state::whole(&self.record))?,
+            Line::State => say_all(out, &state::whole(&self.record))?,
             Line::Help => write!(out, "{}", help::PULSE_LINES)?,
             Line::Quit => return Ok(Flow::Ends),
         }
@@ -84,7 +90,7 @@ impl Session {
                 let levels = shown_levels(&levels);
                 writeln!(out, "{:<8} {levels}  {meaning}", shown(trains))?;
                 remarks.extend(not_obeyed(trains.pulses, &before));
-                remarks.extend(pulse_state::changes(&before, &self.record));
+                remarks.extend(state::changes(&before, &self.record));
                 remarks.dedup();
                 say_all(out, &remarks)
             }
@@ -106,7 +112,7 @@ impl Session {
         }
         let before = self.record;
         let twos = Trains {
-            pulses: 2,
+            pulses: train::NEXT_BIT,
             times: bits as u32 + 1,
         };
         let asked = self.exchange(&Trains { pulses, times: 1 });
@@ -120,7 +126,7 @@ impl Session {
                     format!("ask {pulses}"),
                     shown_levels(&levels)
                 )?;
-                remarks.extend(pulse_state::changes(&before, &self.record));
+                remarks.extend(state::changes(&before, &self.record));
                 say_all(out, &remarks)
             }
         }
@@ -174,7 +180,7 @@ impl Session {
             return self.refuse(what, refusal, out);
         }
         writeln!(out, "{what}")?;
-        say_all(out, &[pulse_state::summary(&self.record)])
+        say_all(out, &[state::summary(&self.record)])
     }
 
     fn refuse(&mut self, what: &str, refusal: Refusal, out: &mut dyn Write) -> Result<(), Failure> {
@@ -219,8 +225,8 @@ fn shown_levels(levels: &[Level]) -> String {
 
 /// What a train is for a drive in this state.
 pub fn meaning(pulses: u16, before: &Record) -> String {
-    let name = words::train(pulses).unwrap_or("no command of this drive");
-    if pulses == 1 || before.waiting_code() == 0 {
+    let name = words::pulses::train_name(pulses).unwrap_or("no command of this drive");
+    if pulses == train::SOFT_RESET || before.waiting_code() == 0 {
         return name.into();
     }
     let number = u16::from(before.arguments_held()) + 1;
@@ -233,8 +239,8 @@ pub fn meaning(pulses: u16, before: &Record) -> String {
 
 /// A held error keeps the drive from every command but reset and reports, and nothing else shows that.
 fn not_obeyed(pulses: u16, before: &Record) -> Option<String> {
-    let always_taken = pulses <= 2 || reports::length(pulses).is_some();
-    let command = words::train(pulses).is_some() && !always_taken;
+    let always_taken = pulses <= train::NEXT_BIT || reports::length(pulses).is_some();
+    let command = words::pulses::train_name(pulses).is_some() && !always_taken;
     let held = before.error() != 0 && before.report_left() == 0;
     (command && held).then(|| "not obeyed: an error is held; ask 7 tells and clears it".into())
 }

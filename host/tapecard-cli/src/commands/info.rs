@@ -3,13 +3,14 @@
 use std::io::Write;
 use std::path::Path;
 
-use crate::args::Args;
-use crate::drive::{Drive, Kind};
-use crate::failure::Failure;
-use crate::header::Header;
-use crate::progress::Progress;
-use crate::strip::{self, Tape};
-use crate::{image_file, words};
+use crate::command_line::args::Args;
+use crate::command_line::failure::Failure;
+use crate::files::image_file;
+use crate::tape::drive::{Drive, Kind};
+use crate::tape::header::Header;
+use crate::tape::strip::{self, Tape};
+use crate::terminal::progress::Progress;
+use crate::words;
 
 pub fn run(args: &Args, out: &mut dyn Write) -> Result<(), Failure> {
     let path = Path::new(args.operand(0, "the image")?);

@@ -5,19 +5,20 @@ use std::fs;
 use std::io::Write;
 use std::path::Path;
 
+use tapecard::bytes::{length, opcode};
 use tapecard::packet::{Answer, Record, packet};
 use tapecard::{Refusal, sense_words};
 
-use crate::args::Args;
-use crate::failure::Failure;
-use crate::packets::{self, SENSE_LENGTH};
-use crate::script::{self, Flow};
-use crate::{drive, hex, image_file, record_file, whole_file, words};
-
-const READ: u8 = 0x08;
-const WRITE: u8 = 0x0A;
-const WRITE_FILEMARK: u8 = 0x10;
-const MODE_SELECT: u8 = 0x15;
+use crate::command_line::args::Args;
+use crate::command_line::failure::Failure;
+use crate::files::image_file;
+use crate::files::record_file;
+use crate::files::whole_file;
+use crate::tape::drive;
+use crate::tape::packets;
+use crate::terminal::script::{self, Flow};
+use crate::words;
+use crate::words::hex;
 
 /// Room lent to a packet that returns less than a block.
 const SMALL_ROOM: u64 = 256;
@@ -92,7 +93,12 @@ impl<'a> Session<'a> {
 
     fn packet(&mut self, text: &str, out: &mut dyn Write) -> Result<(), Failure> {
         let bytes = hex::read(text)?;
-        writeln!(out, "{}  {}", hex::show(&bytes), words::packet(&bytes))?;
+        writeln!(
+            out,
+            "{}  {}",
+            hex::show(&bytes),
+            words::packets::packet(&bytes)
+        )?;
         self.sent += 1;
         match self.send(&bytes)? {
             (Ok(answer), room) => {
@@ -125,7 +131,7 @@ impl<'a> Session<'a> {
             return Ok(room.into());
         }
         Ok(match bytes {
-            [READ, _, high, middle, low, ..] => {
+            [opcode::READ, _, high, middle, low, ..] => {
                 let blocks = u32::from_be_bytes([0, *high, *middle, *low]);
                 (u64::from(blocks) * self.block_size).min(LARGEST_ROOM)
             }
@@ -140,7 +146,10 @@ impl<'a> Session<'a> {
         } else {
             self.returned.extend(room.iter().take(moved));
         }
-        let stores = matches!(bytes.first(), Some(&(WRITE | WRITE_FILEMARK)));
+        let stores = matches!(
+            bytes.first(),
+            Some(&(opcode::WRITE | opcode::WRITE_FILEMARK))
+        );
         self.stored |= stores && answer.blocks > 0;
     }
 
@@ -160,9 +169,9 @@ impl<'a> Session<'a> {
     }
 
     /// The sense as REQUEST SENSE would return it, asked of a copy of the record so that this one keeps its sense.
-    fn sense_bytes(&mut self) -> Result<[u8; SENSE_LENGTH], Failure> {
+    fn sense_bytes(&mut self) -> Result<[u8; length::SENSE], Failure> {
         let mut copy = self.record;
-        let mut sense = [0; SENSE_LENGTH];
+        let mut sense = [0; length::SENSE];
         packet(
             &mut copy,
             &mut self.image,
@@ -249,7 +258,7 @@ fn outgoing_data(args: &Args) -> Result<Vec<u8>, Failure> {
 }
 
 fn takes_data(bytes: &[u8]) -> bool {
-    matches!(bytes.first(), Some(&(WRITE | MODE_SELECT)))
+    matches!(bytes.first(), Some(&(opcode::WRITE | opcode::MODE_SELECT)))
 }
 
 fn sense_in_words(record: &Record) -> String {

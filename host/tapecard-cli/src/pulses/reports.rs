@@ -1,5 +1,6 @@
 //! The reports of the pulse drive: bits collected train by train, then explained by table 2c of QIC-117.
 
+use tapecard::bytes::train;
 use tapecard::pulse::Record;
 
 use crate::words;
@@ -7,8 +8,8 @@ use crate::words;
 /// Bits of a report without its final 1, where this train asks for one.
 pub fn length(pulses: u16) -> Option<usize> {
     match pulses {
-        6 | 8 | 9 | 33 => Some(8),
-        7 | 32 => Some(16),
+        train::STATUS | train::CONFIGURATION | train::ROM | train::TAPE_STATUS => Some(8),
+        train::ERROR | train::VENDOR => Some(16),
         _ => None,
     }
 }
@@ -53,7 +54,7 @@ impl Listener {
             self.bits.clear();
             return Heard::Opened;
         }
-        if pulses != 2 {
+        if pulses != train::NEXT_BIT {
             return if left == 0 {
                 Heard::BrokenOff
             } else {
@@ -113,25 +114,27 @@ const STATUS: [&str; 8] = [
 pub fn bit_in_words(code: u16, index: usize, bit: bool) -> String {
     let value = u8::from(bit);
     match (code, index) {
-        (6, 0..8) => format!("{}: {}", STATUS[index], words::yes_no(bit)),
-        (7, 0..8) => format!("error number, bit {index}: {value}"),
-        (7, 8..16) => format!("its command, bit {}: {value}", index - 8),
+        (train::STATUS, 0..8) => format!("{}: {}", STATUS[index], words::yes_no(bit)),
+        (train::ERROR, 0..8) => format!("error number, bit {index}: {value}"),
+        (train::ERROR, 8..16) => format!("its command, bit {}: {value}", index - 8),
         _ => format!("bit {index}: {value}"),
     }
 }
 
 fn explain(code: u16, bits: &[bool]) -> Vec<String> {
     match code {
-        6 => (0..8).map(|i| bit_in_words(6, i, bits[i])).collect(),
-        7 => vec![words::pulse_error(small(&bits[..8]), small(&bits[8..]))],
-        8 => configuration(bits),
-        9 => vec![format!(
+        train::STATUS => (0..8)
+            .map(|i| bit_in_words(train::STATUS, i, bits[i]))
+            .collect(),
+        train::ERROR => vec![words::pulses::error(small(&bits[..8]), small(&bits[8..]))],
+        train::CONFIGURATION => configuration(bits),
+        train::ROM => vec![format!(
             "ROM version {}{}",
             number(&bits[..7]),
             if bits[7] { ", beta" } else { "" }
         )],
-        32 => vec![format!("vendor ID {0} ({0:04X}h)", number(bits))],
-        33 => tape_status(bits),
+        train::VENDOR => vec![format!("vendor ID {0} ({0:04X}h)", number(bits))],
+        train::TAPE_STATUS => tape_status(bits),
         _ => Vec::new(),
     }
 }
@@ -139,7 +142,7 @@ fn explain(code: u16, bits: &[bool]) -> Vec<String> {
 fn configuration(bits: &[bool]) -> Vec<String> {
     let rate = small(&bits[3..5]);
     vec![
-        format!("rate {rate}: {}", words::rate(rate)),
+        format!("rate {rate}: {}", words::pulses::rate(rate)),
         format!("extra length tape: {}", words::yes_no(bits[6])),
         format!("QIC-80 mode: {}", words::yes_no(bits[7])),
     ]
@@ -148,8 +151,11 @@ fn configuration(bits: &[bool]) -> Vec<String> {
 fn tape_status(bits: &[bool]) -> Vec<String> {
     let (format, kind) = (small(&bits[..4]), small(&bits[4..7]));
     vec![
-        format!("tape format {format}: {}", words::tape_format(format)),
-        format!("tape type {kind}: {}", words::tape_type(kind)),
+        format!(
+            "tape format {format}: {}",
+            words::pulses::tape_format(format)
+        ),
+        format!("tape type {kind}: {}", words::pulses::tape_type(kind)),
         format!("wide tape: {}", words::yes_no(bits[7])),
     ]
 }

@@ -2,7 +2,7 @@
 
 use std::io::{self, BufRead, IsTerminal, Write};
 
-use crate::failure::Failure;
+use crate::command_line::failure::Failure;
 
 /// What a line asks of the session.
 #[derive(Clone, Copy, PartialEq, Eq)]

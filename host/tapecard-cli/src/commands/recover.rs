@@ -6,21 +6,23 @@
 use std::io::Write;
 
 use tapecard::Refusal;
+use tapecard::bytes::train;
 use tapecard::pulse::Record;
 
-use crate::args::Args;
-use crate::failure::Failure;
-use crate::reports::{self, Heard, Listener};
-use crate::{pulse_cmd, pulse_state, record_file, words};
+use super::pulse;
+use crate::command_line::args::Args;
+use crate::command_line::failure::Failure;
+use crate::files::record_file;
+use crate::pulses::reports::{self, Heard, Listener};
+use crate::pulses::state;
+use crate::words;
 
 const CLOSING_TWOS: usize = 18;
-const STATUS: u16 = 6;
-const ERROR: u16 = 7;
 
 pub fn run(args: &Args, out: &mut dyn Write) -> Result<(), Failure> {
     args.at_most(0)?;
     let mut station = Station {
-        record: pulse_cmd::starting_record(args)?,
+        record: pulse::starting_record(args)?,
         listener: Listener::default(),
     };
     station.tell("before", out)?;
@@ -48,7 +50,7 @@ struct Station {
 
 impl Station {
     fn tell(&self, when: &str, out: &mut dyn Write) -> Result<(), Failure> {
-        writeln!(out, "{when:<11} {}", pulse_state::summary(&self.record))?;
+        writeln!(out, "{when:<11} {}", state::summary(&self.record))?;
         Ok(())
     }
 
@@ -63,11 +65,11 @@ impl Station {
 
     /// The 46 trains.
     fn send_all(&mut self) -> Result<Vec<Row>, Failure> {
-        let mut trains = vec![2; CLOSING_TWOS];
-        for report in [STATUS, ERROR] {
+        let mut trains = vec![train::NEXT_BIT; CLOSING_TWOS];
+        for report in [train::STATUS, train::ERROR] {
             let bits = reports::length(report).unwrap_or(0);
             trains.push(report);
-            trains.extend(vec![2; bits + 1]);
+            trains.extend(vec![train::NEXT_BIT; bits + 1]);
         }
         trains.into_iter().map(|pulses| self.send(pulses)).collect()
     }
@@ -85,11 +87,11 @@ impl Station {
 
     fn meaning(&self, pulses: u16, before: &Record, heard: &Heard) -> String {
         match heard {
-            Heard::Nothing if pulses == 2 && before.waiting_code() == 0 => {
+            Heard::Nothing if pulses == train::NEXT_BIT && before.waiting_code() == 0 => {
                 "no report is open: nothing happens".into()
             }
-            Heard::Nothing => pulse_cmd::meaning(pulses, before),
-            Heard::Opened => format!("{}: acknowledged", pulse_cmd::meaning(pulses, before)),
+            Heard::Nothing => pulse::meaning(pulses, before),
+            Heard::Opened => format!("{}: acknowledged", pulse::meaning(pulses, before)),
             Heard::Bit(index) => {
                 let code = self.listener.code().unwrap_or(0);
                 reports::bit_in_words(code, *index, self.record.level().is_high())
@@ -105,7 +107,7 @@ impl Station {
     /// The error as the last report's bits tell it.
     fn held_error(&self) -> String {
         let number = |first, beyond| self.listener.number(first, beyond) as u8;
-        words::pulse_error(number(0, 8), number(8, 16))
+        words::pulses::error(number(0, 8), number(8, 16))
     }
 
     fn verdict(&self, out: &mut dyn Write) -> Result<(), Failure> {

@@ -1,6 +1,6 @@
 //! Bytes written as hexadecimal digits.
 
-use crate::failure::Failure;
+use crate::command_line::failure::Failure;
 
 /// Reads words such as `08 01 0000ff`: two digits a byte, joined or apart; one digit alone is a byte too.
 pub fn read(text: &str) -> Result<Vec<u8>, Failure> {

@@ -1,11 +1,21 @@
 //! The commands by name.
 
+mod get;
+mod help;
+mod info;
+mod list;
+mod new;
+mod packet;
+mod pulse;
+mod put;
+mod recover;
+
 use std::ffi::OsString;
 use std::io::Write;
 
-use crate::args::{Args, Options};
-use crate::failure::Failure;
-use crate::{get, help, info, list, new, packet_cmd, pulse_cmd, put, recover, words};
+use crate::command_line::args::{Args, Options};
+use crate::command_line::failure::Failure;
+use crate::words;
 
 struct Command {
     name: &'static str,
@@ -70,7 +80,7 @@ static COMMANDS: [Command; 8] = [
             flags: &["--cold"],
             valued: &["--record", "--data", "--out", "--room"],
         },
-        run: packet_cmd::run,
+        run: packet::run,
     },
     Command {
         name: "pulse",
@@ -80,7 +90,7 @@ static COMMANDS: [Command; 8] = [
             flags: &[],
             valued: &["--record", "--vendor", "--rom"],
         },
-        run: pulse_cmd::run,
+        run: pulse::run,
     },
     Command {
         name: "recover",

@@ -5,8 +5,8 @@ use std::path::Path;
 
 use tapecard::Refusal;
 
-use crate::drive::Drive;
-use crate::failure::Failure;
+use crate::command_line::failure::Failure;
+use crate::tape::drive::Drive;
 use crate::words;
 
 /// The bytes of an image, not looked at.

@@ -1,9 +1,9 @@
 //! The files on a tape: what stands between two filemarks.
 
-use crate::drive::{Drive, Ended};
-use crate::failure::Failure;
-use crate::label::Label;
-use crate::packets;
+use crate::command_line::failure::Failure;
+use crate::tape::drive::{Drive, Ended};
+use crate::tape::label::Label;
+use crate::tape::packets;
 use crate::words;
 
 #[derive(Debug)]

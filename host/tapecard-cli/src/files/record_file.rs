@@ -4,8 +4,9 @@ use std::fs::{self, File};
 use std::io::{ErrorKind, Read};
 use std::path::Path;
 
-use crate::failure::Failure;
-use crate::{whole_file, words};
+use crate::command_line::failure::Failure;
+use crate::files::whole_file;
+use crate::words;
 
 /// The record in this file, `None` where there is no such file yet.
 pub fn read<const N: usize>(path: &Path) -> Result<Option<[u8; N]>, Failure> {

@@ -1,6 +1,6 @@
 //! The tape as a strip of characters.
 
-use crate::drive::Kind;
+use crate::tape::drive::Kind;
 
 /// Cells of a long tape; a shorter one has a cell for each element.
 const CELLS: usize = 64;

@@ -1,10 +1,11 @@
 //! A packet drive with a cartridge in it. All content of an image goes through here.
 
+use tapecard::bytes::{length, page, triple};
 use tapecard::packet::{Answer, Record, Sense, packet};
 use tapecard::{Refusal, sense_words};
 
-use crate::failure::Failure;
-use crate::packets::{self, MODE_LENGTH, Packet};
+use crate::command_line::failure::Failure;
+use crate::tape::packets::{self, Packet};
 
 /// Blocks moved by one packet.
 pub const CHUNK: u32 = 64;
@@ -122,13 +123,13 @@ impl Ended {
         if answer.is_good() {
             return Ended::Good;
         }
-        match (sense.key, sense.asc, sense.ascq) {
-            (0x0, 0x00, 0x01) => Ended::Filemark,
-            (0x0, 0x00, 0x02) => Ended::EarlyWarning,
-            (0x8, 0x00, 0x05) => Ended::EndOfData,
-            (0x3, 0x11, 0x00) => Ended::Unreadable,
-            (0x7, 0x27, 0x00) => Ended::Protected,
-            (0xD, 0x00, 0x02) => Ended::Full,
+        match sense.triple() {
+            triple::FILEMARK => Ended::Filemark,
+            triple::EARLY_WARNING => Ended::EarlyWarning,
+            triple::END_OF_DATA => Ended::EndOfData,
+            triple::UNREADABLE => Ended::Unreadable,
+            triple::PROTECTED => Ended::Protected,
+            triple::FULL => Ended::Full,
             _ => Ended::Otherwise,
         }
     }
@@ -150,7 +151,13 @@ pub fn block_size_of(image: &mut [u8]) -> Result<usize, Refusal> {
 
 /// Page 2Ah follows the 12 bytes of its header; its byte 7 is 04h where a block has 1,024 bytes.
 fn ask_block_size(record: &mut Record, image: &mut [u8]) -> Result<usize, Refusal> {
-    let mut page = [0; MODE_LENGTH];
-    packet(record, image, &packets::mode_sense(), &mut page)?;
-    Ok(if page[12 + 7] == 0x04 { 1024 } else { 512 })
+    let mut reply = [0; length::MODE_WITH_PAGE];
+    packet(record, image, &packets::mode_sense(), &mut reply)?;
+    Ok(
+        if reply[length::MODE_HEADER + page::BLOCK_SIZE_AT] == page::BLOCKS_OF_1024 {
+            1024
+        } else {
+            512
+        },
+    )
 }

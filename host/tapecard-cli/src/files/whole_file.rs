@@ -5,7 +5,7 @@ use std::io::{self, ErrorKind, Write};
 use std::path::{Path, PathBuf};
 use std::process;
 
-use crate::failure::Failure;
+use crate::command_line::failure::Failure;
 use crate::words;
 
 /// Gives the file this content, or leaves it as it was.

@@ -6,14 +6,17 @@ use std::io::{Read, Write};
 use std::os::unix::ffi::OsStrExt;
 use std::path::Path;
 
-use crate::args::Args;
-use crate::catalogue::catalogue;
-use crate::drive::{CHUNK, Drive, Ended};
-use crate::failure::{Failure, complain};
-use crate::header::{LARGEST_BLOCK, LARGEST_CAPACITY};
-use crate::label::{LONGEST_NAME, Label};
-use crate::progress::Progress;
-use crate::{image_file, packets, whole_file, words};
+use crate::command_line::args::Args;
+use crate::command_line::failure::{Failure, complain};
+use crate::files::image_file;
+use crate::files::whole_file;
+use crate::tape::catalogue::catalogue;
+use crate::tape::drive::{CHUNK, Drive, Ended};
+use crate::tape::header::{LARGEST_BLOCK, LARGEST_CAPACITY};
+use crate::tape::label::{LONGEST_NAME, Label};
+use crate::tape::packets;
+use crate::terminal::progress::Progress;
+use crate::words;
 
 /// A file that is read to be put on a tape.
 struct Source {

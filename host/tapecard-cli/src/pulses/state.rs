@@ -44,7 +44,7 @@ pub fn whole(record: &Record) -> Vec<String> {
         format!(
             "rate       {}, {}",
             record.rate(),
-            words::rate(record.rate())
+            words::pulses::rate(record.rate())
         ),
         format!("level      {}", record.level()),
         format!("vendor     {}", record.vendor()),
@@ -84,7 +84,11 @@ pub fn changes(before: &Record, after: &Record) -> Vec<String> {
     );
     say(
         before.rate() != after.rate(),
-        format!("rate {}, {}", after.rate(), words::rate(after.rate())),
+        format!(
+            "rate {}, {}",
+            after.rate(),
+            words::pulses::rate(after.rate())
+        ),
     );
     let arguments = |record: &Record| (record.waiting_code(), record.arguments_held());
     say(
@@ -103,9 +107,9 @@ fn cartridge(record: &Record) -> String {
         words::count(c.segments.into(), "segment"),
         words::count(c.tracks.into(), "track"),
         c.format,
-        words::tape_format(c.format),
+        words::pulses::tape_format(c.format),
         c.kind,
-        words::tape_type(c.kind)
+        words::pulses::tape_type(c.kind)
     );
     for (holds, name) in [
         (c.burst, "reference burst"),
@@ -143,7 +147,7 @@ fn moving(how: &str, record: &Record) -> String {
 }
 
 fn error(record: &Record) -> String {
-    words::pulse_error(record.error(), record.error_command())
+    words::pulses::error(record.error(), record.error_command())
 }
 
 fn items(record: &Record) -> String {
@@ -155,10 +159,10 @@ fn waiting(record: &Record) -> String {
     if code == 0 {
         return "none waited for".into();
     }
-    let missing = words::arguments_needed(code).saturating_sub(record.arguments_held());
+    let missing = words::pulses::arguments_needed(code).saturating_sub(record.arguments_held());
     format!(
         "{code}, {}, waits for {}",
-        words::train(code.into()).unwrap_or("unknown"),
+        words::pulses::train_name(code.into()).unwrap_or("unknown"),
         words::count(missing.into(), "argument")
     )
 }

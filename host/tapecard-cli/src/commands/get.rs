@@ -5,12 +5,15 @@ use std::io::Write;
 use std::os::unix::ffi::OsStrExt;
 use std::path::{Path, PathBuf};
 
-use crate::args::Args;
-use crate::catalogue::{TapeFile, catalogue};
-use crate::drive::{CHUNK, Drive, Ended};
-use crate::failure::{Failure, complain};
-use crate::progress::Progress;
-use crate::{image_file, packets, whole_file, words};
+use crate::command_line::args::Args;
+use crate::command_line::failure::{Failure, complain};
+use crate::files::image_file;
+use crate::files::whole_file;
+use crate::tape::catalogue::{TapeFile, catalogue};
+use crate::tape::drive::{CHUNK, Drive, Ended};
+use crate::tape::packets;
+use crate::terminal::progress::Progress;
+use crate::words;
 
 pub fn run(args: &Args, out: &mut dyn Write) -> Result<(), Failure> {
     let path = Path::new(args.operand(0, "the image")?);
