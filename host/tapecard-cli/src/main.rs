@@ -4,24 +4,23 @@ mod command_line;
 mod commands;
 mod files;
 mod pulses;
+mod system;
 mod tape;
 mod terminal;
 mod words;
 
 use std::env;
 use std::ffi::OsString;
-use std::io::{self, Write};
+use std::io;
 use std::process::ExitCode;
 
+use terminal::interrupt;
+
 fn main() -> ExitCode {
+    interrupt::watch();
     let words: Vec<OsString> = env::args_os().skip(1).collect();
-    let mut out = io::stdout().lock();
-    let done = commands::run(&words, &mut out).and_then(|()| Ok(out.flush()?));
-    match done {
+    match commands::run(&words, &mut io::stdout()) {
         Ok(()) => ExitCode::SUCCESS,
-        Err(failure) => {
-            let _ = out.flush();
-            failure.say()
-        }
+        Err(failure) => failure.say(),
     }
 }

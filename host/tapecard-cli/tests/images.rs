@@ -129,7 +129,8 @@ fn the_strip_of_the_longest_tape() {
         "  recorded       0 elements: 0 data blocks, 0 filemarks, 0 unreadable; 65535 blank",
         &blank,
         "   ^ end of data, 0",
-        "  one cell for about 1024 elements; it shows the first of these that it holds: unreadable, filemark, data",
+        "  # data   | filemarks   + data and filemarks   ! some unreadable   . blank",
+        "  one cell for about 1024 elements",
     ]);
 }
 

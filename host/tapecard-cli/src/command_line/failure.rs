@@ -1,6 +1,6 @@
 //! What can go wrong, said in a sentence on standard error.
 
-use std::io::{self, ErrorKind, Write};
+use std::io::{self, Write};
 use std::process::ExitCode;
 
 use tapecard::Refusal;
@@ -11,8 +11,12 @@ pub enum Failure {
     Usage(String),
     /// The work could not be done: exit status 1.
     Work(String),
-    /// Standard output took no more.
+    /// The drive answered CHECK CONDITION, as its answer says: exit status 3.
+    Answered,
+    /// Standard output took no more of what was asked for: exit status 1.
     Output(io::Error),
+    /// The work is done and kept, but standard output took no word of it: exit status 0.
+    Untold { error: io::Error, done: String },
 }
 
 impl Failure {
@@ -24,22 +28,15 @@ impl Failure {
         Failure::Work(sentence.into())
     }
 
-    /// Puts where it happened before the sentence.
-    pub fn at(self, where_it_was: &str) -> Failure {
-        match self {
-            Failure::Usage(sentence) => Failure::Usage(format!("{where_it_was}: {sentence}")),
-            Failure::Work(sentence) => Failure::Work(format!("{where_it_was}: {sentence}")),
-            output => output,
-        }
-    }
-
-    /// Says the sentence and gives the exit status. A reader that closed the pipe early, as `head` does, is no failure.
+    /// Says the sentence and gives the exit status.
     pub fn say(&self) -> ExitCode {
+        let took_no_more = |e: &io::Error| format!("standard output took no more: {e}");
         let (sentence, status) = match self {
             Failure::Usage(sentence) => (sentence.clone(), 2),
             Failure::Work(sentence) => (sentence.clone(), 1),
-            Failure::Output(e) if e.kind() == ErrorKind::BrokenPipe => return ExitCode::SUCCESS,
-            Failure::Output(e) => (format!("standard output took no more: {e}"), 1),
+            Failure::Answered => return ExitCode::from(3),
+            Failure::Output(e) => (took_no_more(e), 1),
+            Failure::Untold { error, done } => (format!("{}; {done}", took_no_more(error)), 0),
         };
         complain(&sentence);
         ExitCode::from(status)

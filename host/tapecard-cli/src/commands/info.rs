@@ -3,26 +3,46 @@
 use std::io::Write;
 use std::path::Path;
 
+use super::{Command, NO_OPTIONS};
 use crate::command_line::args::Args;
 use crate::command_line::failure::Failure;
 use crate::files::image_file;
 use crate::tape::drive::{Drive, Kind};
 use crate::tape::header::Header;
 use crate::tape::strip::{self, Tape};
+use crate::terminal::output;
 use crate::terminal::progress::Progress;
 use crate::words;
 
-pub fn run(args: &Args, out: &mut dyn Write) -> Result<(), Failure> {
+const HELP: &str = "\
+usage: tapecard info IMAGE
+
+Shows the header in words and the tape as a strip: data, filemarks, unreadable
+and blank elements, with position 0, the end of data and the early warning
+marked.
+";
+
+pub const COMMAND: Command = Command {
+    name: "info",
+    summary: "show an image's header and its tape as a strip",
+    help: &[HELP],
+    options: NO_OPTIONS,
+    run,
+};
+
+fn run(args: &Args, out: &mut dyn Write) -> Result<(), Failure> {
     let path = Path::new(args.operand(0, "the image")?);
     args.at_most(1)?;
     let mut drive = image_file::load(path)?;
     let header = Header::read(drive.image())
         .ok_or_else(|| Failure::work("the image has no header; take another copy"))?;
     let kinds = survey(&mut drive, &header)?;
-    writeln!(out, "{}", words::shown(path))?;
-    show_header(&header, out)?;
-    show_counts(&kinds, &header, out)?;
-    show_strip(&kinds, &header, out)
+    let mut text = Vec::new();
+    writeln!(text, "{}", words::shown(path))?;
+    show_header(&header, &mut text)?;
+    show_counts(&kinds, &header, &mut text)?;
+    show_strip(&kinds, &header, &mut text)?;
+    output::show(out, &text)
 }
 
 fn survey(drive: &mut Drive, header: &Header) -> Result<Vec<Kind>, Failure> {
@@ -37,7 +57,11 @@ fn show_header(header: &Header, out: &mut dyn Write) -> Result<(), Failure> {
         "  capacity       {}",
         words::count(header.capacity.into(), "element")
     )?;
-    writeln!(out, "  write protect  {}", words::yes_no(header.protected))?;
+    writeln!(
+        out,
+        "  write protect  {}",
+        words::yes_no(header.protected())
+    )?;
     writeln!(out, "  medium type    {}", header.medium)?;
     match header.early_warning {
         0 => writeln!(out, "  early warning  none")?,
@@ -81,7 +105,8 @@ fn show_strip(kinds: &[Kind], header: &Header, out: &mut dyn Write) -> Result<()
         writeln!(out, "{line}")?;
     }
     writeln!(out)?;
-    writeln!(out, "  {}", strip::LEGEND)?;
-    writeln!(out, "  {}", strip::scale(&tape))?;
+    for line in strip::legend(&tape) {
+        writeln!(out, "  {line}")?;
+    }
     Ok(())
 }

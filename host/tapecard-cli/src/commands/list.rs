@@ -3,28 +3,45 @@
 use std::io::Write;
 use std::path::Path;
 
+use super::{Command, NO_OPTIONS};
 use crate::command_line::args::Args;
 use crate::command_line::failure::Failure;
 use crate::files::image_file;
 use crate::tape::catalogue::catalogue;
-use crate::words;
+use crate::terminal::output;
+use crate::words::{self, names};
 
-pub fn run(args: &Args, out: &mut dyn Write) -> Result<(), Failure> {
+const HELP: &str = "\
+usage: tapecard list IMAGE
+
+Lists the files: number, name, exact bytes, blocks (the label among them) and
+the position of the first one. In a name, what cannot be seen stands escaped.
+";
+
+pub const COMMAND: Command = Command {
+    name: "list",
+    summary: "list the files of an image",
+    help: &[HELP],
+    options: NO_OPTIONS,
+    run,
+};
+
+fn run(args: &Args, out: &mut dyn Write) -> Result<(), Failure> {
     let path = Path::new(args.operand(0, "the image")?);
     args.at_most(1)?;
     let mut drive = image_file::load(path)?;
     let files = catalogue(&mut drive)?;
     if files.is_empty() {
-        writeln!(out, "{} holds no files", words::shown(path))?;
-        return Ok(());
+        let text = format!("{} holds no files\n", words::shown(path));
+        return output::show(out, text.as_bytes());
     }
     let size = drive.block_size();
-    let width = files.iter().map(|f| f.name().chars().count()).max();
+    let width = files.iter().map(|f| names::width(&f.name())).max();
     let width = width.unwrap_or(0).max("name".len());
     let heading = ["number", "name", "bytes", "blocks", "position", ""];
-    show_row(out, width, heading.map(String::from))?;
+    let mut text = row(width, heading.map(String::from));
     for (index, file) in files.iter().enumerate() {
-        let row = [
+        let cells = [
             (index + 1).to_string(),
             file.name(),
             file.length().map_or("-".into(), |n| n.to_string()),
@@ -32,15 +49,14 @@ pub fn run(args: &Args, out: &mut dyn Write) -> Result<(), Failure> {
             file.place.to_string(),
             file.remark(size).to_string(),
         ];
-        show_row(out, width, row)?;
+        text.push_str(&row(width, cells));
     }
-    Ok(())
+    output::show(out, text.as_bytes())
 }
 
-fn show_row(out: &mut dyn Write, width: usize, row: [String; 6]) -> Result<(), Failure> {
-    let [number, name, bytes, blocks, position, remark] = row;
-    let line =
-        format!("{number:>6}  {name:<width$}  {bytes:>9}  {blocks:>6}  {position:>8}  {remark}");
-    writeln!(out, "{}", line.trim_end())?;
-    Ok(())
+fn row(width: usize, cells: [String; 6]) -> String {
+    let [number, name, bytes, blocks, position, remark] = cells;
+    let name = names::padded(&name, width);
+    let line = format!("{number:>6}  {name}  {bytes:>9}  {blocks:>6}  {position:>8}  {remark}");
+    format!("{}\n", line.trim_end())
 }

@@ -1,7 +1,6 @@
 //! The commands by name.
 
 mod get;
-mod help;
 mod info;
 mod list;
 mod new;
@@ -15,6 +14,7 @@ use std::io::Write;
 
 use crate::command_line::args::{Args, Options};
 use crate::command_line::failure::Failure;
+use crate::terminal::output;
 use crate::words;
 
 struct Command {
@@ -25,107 +25,88 @@ struct Command {
     run: fn(&Args, &mut dyn Write) -> Result<(), Failure>,
 }
 
+static COMMANDS: [Command; 8] = [
+    new::COMMAND,
+    info::COMMAND,
+    put::COMMAND,
+    get::COMMAND,
+    list::COMMAND,
+    packet::COMMAND,
+    pulse::COMMAND,
+    recover::COMMAND,
+];
+
 const NO_OPTIONS: Options = Options {
     flags: &[],
     valued: &[],
 };
 
-static COMMANDS: [Command; 8] = [
-    Command {
-        name: "new",
-        summary: "make a blank cartridge image",
-        help: &[help::NEW],
-        options: Options {
-            flags: &["--protect", "--force"],
-            valued: &["--blocks", "--block-size", "--early-warning", "--medium"],
-        },
-        run: new::run,
-    },
-    Command {
-        name: "info",
-        summary: "show an image's header and its tape as a strip",
-        help: &[help::INFO],
-        options: NO_OPTIONS,
-        run: info::run,
-    },
-    Command {
-        name: "put",
-        summary: "append files to an image",
-        help: &[help::PUT],
-        options: NO_OPTIONS,
-        run: put::run,
-    },
-    Command {
-        name: "get",
-        summary: "take a file from an image",
-        help: &[help::GET],
-        options: Options {
-            flags: &["--force"],
-            valued: &["-o"],
-        },
-        run: get::run,
-    },
-    Command {
-        name: "list",
-        summary: "list the files of an image",
-        help: &[help::LIST],
-        options: NO_OPTIONS,
-        run: list::run,
-    },
-    Command {
-        name: "packet",
-        summary: "send packets to the packet drive",
-        help: &[help::PACKET],
-        options: Options {
-            flags: &["--cold"],
-            valued: &["--record", "--data", "--out", "--room"],
-        },
-        run: packet::run,
-    },
-    Command {
-        name: "pulse",
-        summary: "a session with the pulse drive",
-        help: &[help::PULSE, help::PULSE_LINES],
-        options: Options {
-            flags: &[],
-            valued: &["--record", "--vendor", "--rom"],
-        },
-        run: pulse::run,
-    },
-    Command {
-        name: "recover",
-        summary: "bring a lost pulse drive back",
-        help: &[help::RECOVER],
-        options: Options {
-            flags: &[],
-            valued: &["--record"],
-        },
-        run: recover::run,
-    },
-];
+const HELP_HEAD: &str = "\
+tapecard: cartridge images, packets and pulses of the drive card
+
+usage: tapecard COMMAND ..
+
+";
+
+const HELP_TAIL: &str = "
+tapecard COMMAND --help tells more about a command, tapecard --version its
+version.
+Exit status: 0 done; 1 it could not be done, or the drive refused a call; 2 the
+command line is wrong; 3 the drive answered CHECK CONDITION (packet).
+An image or a record is replaced only when whole, and only if it is still the
+one that was read: what fails leaves it as it was.
+";
 
 /// Runs the command that the first word names.
 pub fn run(words: &[OsString], out: &mut dyn Write) -> Result<(), Failure> {
     let Some((first, rest)) = words.split_first() else {
-        general_help(out)?;
+        output::show(out, general_help().as_bytes())?;
         return Err(Failure::usage("no command is given"));
     };
-    if is_help(first) || first == "help" {
-        return match rest.first() {
-            Some(name) => show_help(find(name)?, out),
-            None => general_help(out),
-        };
+    match first.to_str() {
+        Some("help" | "--help" | "-h") => help(rest, out),
+        Some("version" | "--version" | "-V") => version(rest, out),
+        _ => run_command(find(first)?, rest, out),
     }
-    if first == "--version" {
-        writeln!(out, "tapecard {}", env!("CARGO_PKG_VERSION"))?;
-        return Ok(());
+}
+
+fn run_command(
+    command: &'static Command,
+    words: &[OsString],
+    out: &mut dyn Write,
+) -> Result<(), Failure> {
+    if words.iter().take_while(|word| *word != "--").any(is_help) {
+        return output::show(out, command.help.concat().as_bytes());
     }
-    let command = find(first)?;
-    if rest.iter().take_while(|word| *word != "--").any(is_help) {
-        return show_help(command, out);
-    }
-    let args = Args::parse(command.name, &command.options, rest)?;
+    let args = Args::parse(command.name, &command.options, words)?;
     (command.run)(&args, out)
+}
+
+fn help(words: &[OsString], out: &mut dyn Write) -> Result<(), Failure> {
+    let text = match words {
+        [] => general_help(),
+        [word] if word == "help" || word == "version" || is_help(word) => general_help(),
+        [name] => find(name)?.help.concat(),
+        [_, second, ..] => return Err(too_many(second)),
+    };
+    output::show(out, text.as_bytes())
+}
+
+fn version(words: &[OsString], out: &mut dyn Write) -> Result<(), Failure> {
+    match words {
+        [] => output::show(
+            out,
+            concat!("tapecard ", env!("CARGO_PKG_VERSION"), "\n").as_bytes(),
+        ),
+        [word, ..] => Err(too_many(word)),
+    }
+}
+
+fn too_many(word: &OsString) -> Failure {
+    Failure::usage(format!(
+        "{} is one word too many; see tapecard --help",
+        words::shown(word)
+    ))
 }
 
 fn is_help(word: &OsString) -> bool {
@@ -144,18 +125,10 @@ fn find(name: &OsString) -> Result<&'static Command, Failure> {
     })
 }
 
-fn show_help(command: &Command, out: &mut dyn Write) -> Result<(), Failure> {
-    for text in command.help {
-        write!(out, "{text}")?;
-    }
-    Ok(())
-}
-
-fn general_help(out: &mut dyn Write) -> Result<(), Failure> {
-    write!(out, "{}", help::GENERAL_HEAD)?;
+fn general_help() -> String {
+    let mut text = String::from(HELP_HEAD);
     for command in &COMMANDS {
-        writeln!(out, "  {:<8} {}", command.name, command.summary)?;
+        text.push_str(&format!("  {:<8} {}\n", command.name, command.summary));
     }
-    write!(out, "{}", help::GENERAL_TAIL)?;
-    Ok(())
+    text + HELP_TAIL
 }

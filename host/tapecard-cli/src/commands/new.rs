@@ -1,39 +1,79 @@
 //! `tapecard new`: a fresh image.
 
+use std::fs;
 use std::io::Write;
 use std::path::Path;
 
-use crate::command_line::args::Args;
+use super::Command;
+use crate::command_line::args::{Args, Options};
 use crate::command_line::failure::Failure;
-use crate::files::whole_file;
+use crate::files::held_file::unwritten;
+use crate::files::output_file;
 use crate::tape::drive::Drive;
 use crate::tape::header::{Header, LARGEST_CAPACITY};
+use crate::terminal::output;
 use crate::words;
+
+const HELP: &str = "\
+usage: tapecard new IMAGE [--blocks N] [--block-size 512|1024]
+                          [--early-warning W] [--protect] [--medium T] [--force]
+
+Makes a blank cartridge image.
+  --blocks N         elements of the tape, 1 to 65535 (usually 1024)
+  --block-size B     bytes of a block, 512 or 1024 (usually 1024)
+  --early-warning W  the last W elements warn (usually a sixteenth of the tape)
+  --protect          write protected
+  --medium T         medium type, 0 to 255 (usually 0)
+  --force            replace a file that is there
+";
+
+pub const COMMAND: Command = Command {
+    name: "new",
+    summary: "make a blank cartridge image",
+    help: &[HELP],
+    options: Options {
+        flags: &["--protect", "--force"],
+        valued: &["--blocks", "--block-size", "--early-warning", "--medium"],
+    },
+    run,
+};
 
 const USUAL_CAPACITY: u32 = 1024;
 /// A cartridge warns in its last sixteenth unless told otherwise.
 const USUAL_WARNING_SHARE: u32 = 16;
 
-pub fn run(args: &Args, out: &mut dyn Write) -> Result<(), Failure> {
+fn run(args: &Args, out: &mut dyn Write) -> Result<(), Failure> {
     let path = Path::new(args.operand(0, "the name of the image")?);
     args.at_most(1)?;
     let header = header(args)?;
     let drive = Drive::with(header.image())?;
-    whole_file::create(path, drive.image(), args.has("--force"))?;
-    writeln!(
-        out,
-        "made {}: {} of {} bytes, {} bytes in all{}",
+    ensure_no_device(path)?;
+    output_file::take_free(path, args.has("--force"))?
+        .save(drive.image())
+        .map_err(|e| unwritten(path, &e, "nothing was changed"))?;
+    let told = format!(
+        "made {}: {} of {} bytes, {} bytes in all{}\n",
         words::shown(path),
         words::count(header.capacity.into(), "element"),
         header.block_size,
         drive.image().len(),
-        if header.protected {
+        if header.protected() {
             ", write protected"
         } else {
             ""
         }
-    )?;
-    Ok(())
+    );
+    output::tell_done(out, &told, "the image is made")
+}
+
+fn ensure_no_device(path: &Path) -> Result<(), Failure> {
+    match fs::metadata(path) {
+        Ok(there) if !there.is_file() => Err(Failure::work(format!(
+            "{} is no plain file and stays as it is; name a file for the image",
+            words::shown(path)
+        ))),
+        _ => Ok(()),
+    }
 }
 
 fn header(args: &Args) -> Result<Header, Failure> {

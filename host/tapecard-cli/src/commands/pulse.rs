@@ -1,246 +1,80 @@
 //! `tapecard pulse`: a session with the pulse drive, line by line.
 
 mod line;
+mod session;
 
 use std::io::Write;
 
-use tapecard::Refusal;
-use tapecard::bytes::train;
-use tapecard::pulse::{Level, Record};
+use tapecard::pulse::Record;
 
-use crate::command_line::args::Args;
+use super::Command;
+use crate::command_line::args::{Args, Options};
 use crate::command_line::failure::Failure;
-use crate::commands::help;
-use crate::files::record_file;
-use crate::pulses::reports::{self, Heard, Listener};
-use crate::pulses::state;
-use crate::terminal::script::{self, Flow};
-use crate::words;
-use line::{Line, Trains};
+use crate::files::record_file::RecordFile;
+use crate::terminal::script;
+use session::PulseSession;
 
-/// Levels shown of a train that is sent very often.
-const SHOWN_LEVELS: usize = 64;
+const HELP: &str = "\
+usage: tapecard pulse [--record FILE] [--vendor N] [--rom N]
 
-pub fn run(args: &Args, out: &mut dyn Write) -> Result<(), Failure> {
+A session with the pulse drive: each line of standard input is a call. What a
+line changed is on the disk before its answer is shown, so an interrupt (Ctrl-C)
+loses nothing that was answered; a bad line ends a script there.
+  --record FILE  keep the drive's record of 32 bytes between runs; a file that is
+                 not there is begun with a drive just switched on
+  --vendor N     vendor ID of a drive switched on, 0 to 65535
+  --rom N        ROM version of a drive switched on, 0 to 255
+
+";
+
+const LINES: &str = "\
+lines:
+  6              a train of 6 pulses; also: train 6
+  2 x18          eighteen trains of 2; several may stand on a line: 35 14 4 3
+  ask 6          a report with all its bits: 6 status, 7 error,
+                 8 configuration, 9 ROM, 32 vendor, 33 tape
+  tick 5         five ticks of time pass
+  wait 4095      ticks until ready, at most 4095
+  insert segments=207 tracks=28 [place=40] [format=2] [type=1] [burst]
+         [protected] [wide]
+  remove         takes the cartridge out
+  state          all of the drive's record
+  help, quit
+";
+
+pub const COMMAND: Command = Command {
+    name: "pulse",
+    summary: "a session with the pulse drive",
+    help: &[HELP, LINES],
+    options: Options {
+        flags: &[],
+        valued: &["--record", "--vendor", "--rom"],
+    },
+    run,
+};
+
+fn run(args: &Args, out: &mut dyn Write) -> Result<(), Failure> {
     args.at_most(0)?;
-    let mut session = Session {
-        record: starting_record(args)?,
-        listener: Listener::default(),
-        refused: 0,
-    };
-    writeln!(out, "drive    {}", state::summary(&session.record))?;
-    script::each_line("pulse", out, |line, out| session.line(line, out))?;
-    record_file::save(args.path("--record"), &session.record.0)?;
-    match session.refused {
-        0 => Ok(()),
-        refused => Err(Failure::work(format!(
-            "{} refused; a refused call changes nothing",
-            words::count(refused, "call")
-        ))),
-    }
+    let mut file = args.path("--record").map(RecordFile::take).transpose()?;
+    let record = starting_record(args, file.as_ref())?;
+    let mut session = PulseSession::new(record, file.as_mut());
+    session.tell_start(out)?;
+    script::run(&mut session, out)?;
+    session.verdict()
 }
 
 /// The record of the file, or one of a drive just switched on.
-pub fn starting_record(args: &Args) -> Result<Record, Failure> {
-    let vendor = args.number("--vendor", 0..=65_535)?.unwrap_or(0) as u16;
-    let rom = args.number("--rom", 0..=255)?.unwrap_or(0) as u8;
-    let kept = match args.path("--record") {
-        Some(path) => record_file::read(path)?,
-        None => None,
+fn starting_record(args: &Args, file: Option<&RecordFile<32>>) -> Result<Record, Failure> {
+    let vendor = args.number("--vendor", 0..=65_535)?;
+    let rom = args.number("--rom", 0..=255)?;
+    let Some(kept) = file.and_then(RecordFile::kept) else {
+        let (vendor, rom) = (vendor.unwrap_or(0), rom.unwrap_or(0));
+        return Ok(Record::power_on(vendor as u16, rom as u8));
     };
-    Ok(kept.map_or_else(|| Record::power_on(vendor, rom), Record))
-}
-
-struct Session {
-    record: Record,
-    listener: Listener,
-    refused: u64,
-}
-
-impl Session {
-    fn line(&mut self, line: &str, out: &mut dyn Write) -> Result<Flow, Failure> {
-        match line::read(line)? {
-            Line::Trains(list) => {
-                for trains in &list {
-                    self.trains(trains, out)?;
-                }
-            }
-            Line::Ask(pulses) => self.ask(pulses, out)?,
-            Line::Tick(times) => self.call(&format!("tick x{times}"), out, |record| {
-                (0..times).try_for_each(|_| record.tick().map(drop))
-            })?,
-            Line::Insert(cartridge) => {
-                self.call("insert", out, |record| record.insert(&cartridge).map(drop))?
-            }
-            Line::Remove => self.call("remove", out, |record| record.remove().map(drop))?,
-            Line::Wait(limit) => self.wait(limit, out)?,
-            Line::State => say_all(out, &state::whole(&self.record))?,
-            Line::Help => write!(out, "{}", help::PULSE_LINES)?,
-            Line::Quit => return Ok(Flow::Ends),
-        }
-        Ok(Flow::Goes)
+    if vendor.or(rom).is_some() {
+        return Err(args.wrong(
+            "--vendor and --rom are for a drive switched on, and --record names one that is on already".into(),
+        ));
     }
-
-    fn trains(&mut self, trains: &Trains, out: &mut dyn Write) -> Result<(), Failure> {
-        let before = self.record;
-        match self.exchange(trains) {
-            Err(refusal) => self.refuse(&shown(trains), refusal, out),
-            Ok((levels, mut remarks)) => {
-                let meaning = meaning(trains.pulses, &before);
-                let levels = shown_levels(&levels);
-                writeln!(out, "{:<8} {levels}  {meaning}", shown(trains))?;
-                remarks.extend(not_obeyed(trains.pulses, &before));
-                remarks.extend(state::changes(&before, &self.record));
-                remarks.dedup();
-                say_all(out, &remarks)
-            }
-        }
-    }
-
-    /// A report train and all the 2s that bring its bits.
-    fn ask(&mut self, pulses: u16, out: &mut dyn Write) -> Result<(), Failure> {
-        let Some(bits) = reports::length(pulses) else {
-            return Err(Failure::work(format!(
-                "{pulses} asks for no report: say 6, 7, 8, 9, 32 or 33"
-            )));
-        };
-        if self.record.report_left() > 0 || self.record.waiting_code() != 0 {
-            return Err(Failure::work(
-                "the drive is in a report or waits for an argument, so the train would not be taken as asked; finish \
-                 that first, or send the trains one by one",
-            ));
-        }
-        let before = self.record;
-        let twos = Trains {
-            pulses: train::NEXT_BIT,
-            times: bits as u32 + 1,
-        };
-        let asked = self.exchange(&Trains { pulses, times: 1 });
-        match asked.and_then(|_| self.exchange(&twos)) {
-            Err(refusal) => self.refuse("ask", refusal, out),
-            Ok((levels, mut remarks)) => {
-                let name = meaning(pulses, &before);
-                writeln!(
-                    out,
-                    "{:<8} {}  {name}",
-                    format!("ask {pulses}"),
-                    shown_levels(&levels)
-                )?;
-                remarks.extend(state::changes(&before, &self.record));
-                say_all(out, &remarks)
-            }
-        }
-    }
-
-    /// Sends one train as often as told: the levels, and what there is to say of the reports.
-    fn exchange(&mut self, trains: &Trains) -> Result<(Vec<Level>, Vec<String>), Refusal> {
-        let mut levels = Vec::new();
-        let mut remarks = Vec::new();
-        for _ in 0..trains.times {
-            let before = self.record;
-            levels.push(self.record.train(trains.pulses)?);
-            let heard = self.listener.hear(trains.pulses, &before, &self.record);
-            remarks.extend(self.remark(&heard));
-        }
-        Ok((levels, remarks))
-    }
-
-    fn remark(&self, heard: &Heard) -> Vec<String> {
-        match heard {
-            Heard::Opened => vec![format!(
-                "report open: send 2 x{}",
-                self.record.report_left()
-            )],
-            Heard::Closed => self.listener.explain(),
-            Heard::Repeat => vec!["the last level once more".into()],
-            Heard::Ignored => vec!["ignored: the next 2 repeats the last level".into()],
-            Heard::BrokenOff => vec!["the report is broken off".into()],
-            Heard::Nothing | Heard::Bit(_) | Heard::UnknownBit => Vec::new(),
-        }
-    }
-
-    fn wait(&mut self, limit: u32, out: &mut dyn Write) -> Result<(), Failure> {
-        match self.record.wait(limit) {
-            Err(refusal) => self.refuse("wait", refusal, out),
-            Ok(waited) => {
-                let ticks = words::count(waited.ticks.into(), "tick");
-                self.call(&format!("waited {ticks}"), out, |_| Ok(()))
-            }
-        }
-    }
-
-    /// Makes a call that is no train and tells how the drive stands.
-    fn call(
-        &mut self,
-        what: &str,
-        out: &mut dyn Write,
-        call: impl FnOnce(&mut Record) -> Result<(), Refusal>,
-    ) -> Result<(), Failure> {
-        if let Err(refusal) = call(&mut self.record) {
-            return self.refuse(what, refusal, out);
-        }
-        writeln!(out, "{what}")?;
-        say_all(out, &[state::summary(&self.record)])
-    }
-
-    fn refuse(&mut self, what: &str, refusal: Refusal, out: &mut dyn Write) -> Result<(), Failure> {
-        self.refused += 1;
-        writeln!(
-            out,
-            "{what:<8} refused, {}: {}; nothing changed",
-            refusal.number,
-            refusal.sentence()
-        )?;
-        Ok(())
-    }
-}
-
-fn say_all(out: &mut dyn Write, lines: &[String]) -> Result<(), Failure> {
-    for line in lines {
-        writeln!(out, "         {line}")?;
-    }
-    Ok(())
-}
-
-fn shown(trains: &Trains) -> String {
-    match trains.times {
-        1 => trains.pulses.to_string(),
-        times => format!("{} x{times}", trains.pulses),
-    }
-}
-
-fn shown_levels(levels: &[Level]) -> String {
-    let first: Vec<String> = levels
-        .iter()
-        .take(SHOWN_LEVELS)
-        .map(Level::to_string)
-        .collect();
-    let heading = if levels.len() == 1 { "level" } else { "levels" };
-    let mut text = format!("{heading} {}", first.join(" "));
-    if levels.len() > SHOWN_LEVELS {
-        text.push_str(&format!(" and {} more", levels.len() - SHOWN_LEVELS));
-    }
-    text
-}
-
-/// What a train is for a drive in this state.
-pub fn meaning(pulses: u16, before: &Record) -> String {
-    let name = words::pulses::train_name(pulses).unwrap_or("no command of this drive");
-    if pulses == train::SOFT_RESET || before.waiting_code() == 0 {
-        return name.into();
-    }
-    let number = u16::from(before.arguments_held()) + 1;
-    let code = before.waiting_code();
-    format!(
-        "argument {number} of {code}, value {}",
-        i32::from(pulses) - 2
-    )
-}
-
-/// A held error keeps the drive from every command but reset and reports, and nothing else shows that.
-fn not_obeyed(pulses: u16, before: &Record) -> Option<String> {
-    let always_taken = pulses <= train::NEXT_BIT || reports::length(pulses).is_some();
-    let command = words::pulses::train_name(pulses).is_some() && !always_taken;
-    let held = before.error() != 0 && before.report_left() == 0;
-    (command && held).then(|| "not obeyed: an error is held; ask 7 tells and clears it".into())
+    Ok(Record(kept))
 }

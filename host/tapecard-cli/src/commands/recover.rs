@@ -9,30 +9,75 @@ use tapecard::Refusal;
 use tapecard::bytes::train;
 use tapecard::pulse::Record;
 
-use super::pulse;
-use crate::command_line::args::Args;
+use super::Command;
+use crate::command_line::args::{Args, Options};
 use crate::command_line::failure::Failure;
-use crate::files::record_file;
+use crate::files::held_file::unwritten;
+use crate::files::record_file::RecordFile;
 use crate::pulses::reports::{self, Heard, Listener};
 use crate::pulses::state;
+use crate::terminal::output;
 use crate::words;
 
 const CLOSING_TWOS: usize = 18;
 
-pub fn run(args: &Args, out: &mut dyn Write) -> Result<(), Failure> {
+const HELP: &str = "\
+usage: tapecard recover [--record FILE]
+
+Brings a lost pulse drive back: after as many ticks as its track has segments
+come the 46 recovery trains (eighteen 2s; 6 and nine 2s; 7 and seventeen 2s),
+each shown with its bit. Tells which error was held and by which command, and how
+the drive stands.
+  --record FILE  the drive's record, as tapecard pulse keeps it; it must be there.
+                 Without it a drive just switched on is shown
+";
+
+pub const COMMAND: Command = Command {
+    name: "recover",
+    summary: "bring a lost pulse drive back",
+    help: &[HELP],
+    options: Options {
+        flags: &[],
+        valued: &["--record"],
+    },
+    run,
+};
+
+fn run(args: &Args, out: &mut dyn Write) -> Result<(), Failure> {
     args.at_most(0)?;
+    let mut file = args.path("--record").map(RecordFile::take).transpose()?;
     let mut station = Station {
-        record: pulse::starting_record(args)?,
+        record: lost_drive(file.as_ref())?,
         listener: Listener::default(),
     };
-    station.tell("before", out)?;
+    let mut told = Vec::new();
+    station.tell("before", &mut told)?;
     let ticks = station.let_time_pass()?;
-    station.tell(&words::count(ticks.into(), "tick"), out)?;
-    show(&station.send_all()?, out)?;
-    writeln!(out, "{:<11} {}", "held", station.held_error())?;
-    station.tell("after", out)?;
-    record_file::save(args.path("--record"), &station.record.0)?;
-    station.verdict(out)
+    station.tell(&words::count(ticks.into(), "tick"), &mut told)?;
+    show(&station.send_all()?, &mut told)?;
+    writeln!(told, "{:<11} {}", "held", station.held_error())?;
+    station.tell("after", &mut told)?;
+    if let Some(file) = &mut file {
+        file.keep(&station.record.0)
+            .map_err(|e| unwritten(file.path(), &e, "it has the drive as it was before"))?;
+    }
+    let verdict = station.verdict(&mut told);
+    let told = String::from_utf8_lossy(&told);
+    let told = output::tell_done(out, &told, "the trains were sent and the record is kept");
+    verdict.and(told)
+}
+
+/// A record that is named must be there: a drive made up in its place would be back at once and prove nothing.
+fn lost_drive(file: Option<&RecordFile<32>>) -> Result<Record, Failure> {
+    let Some(file) = file else {
+        return Ok(Record::power_on(0, 0));
+    };
+    file.kept().map(Record).ok_or_else(|| {
+        Failure::work(format!(
+            "the record {} is not there, so there is no drive to bring back; name the file that tapecard pulse keeps",
+            words::shown(file.path())
+        ))
+    })
 }
 
 /// One train of the recovery, its level and what it means.
@@ -90,8 +135,8 @@ impl Station {
             Heard::Nothing if pulses == train::NEXT_BIT && before.waiting_code() == 0 => {
                 "no report is open: nothing happens".into()
             }
-            Heard::Nothing => pulse::meaning(pulses, before),
-            Heard::Opened => format!("{}: acknowledged", pulse::meaning(pulses, before)),
+            Heard::Nothing => state::meaning(pulses, before),
+            Heard::Opened => format!("{}: acknowledged", state::meaning(pulses, before)),
             Heard::Bit(index) => {
                 let code = self.listener.code().unwrap_or(0);
                 reports::bit_in_words(code, *index, self.record.level().is_high())

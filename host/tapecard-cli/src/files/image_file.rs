@@ -1,42 +1,87 @@
 //! Cartridge images in files.
 
-use std::fs;
+use std::fs::{self, File};
+use std::io::{self, Read};
 use std::path::Path;
 
 use tapecard::Refusal;
 
 use crate::command_line::failure::Failure;
+use crate::files::held_file::{HeldFile, Purpose};
+use crate::files::identity::Identity;
 use crate::tape::drive::Drive;
+use crate::tape::header::{self, Header};
 use crate::words;
 
-/// The bytes of an image, not looked at.
-pub fn read(path: &Path) -> Result<Vec<u8>, Failure> {
-    let regular = fs::metadata(path).map(|m| m.is_file());
-    match regular.and_then(|regular| regular.then(|| fs::read(path)).transpose()) {
-        Ok(Some(bytes)) => Ok(bytes),
-        Ok(None) => Err(Failure::work(format!(
+/// The refusal of an image that breaks a header rule.
+const BROKEN_HEADER: Refusal = Refusal { number: 2 };
+
+/// A drive with the image of this file in it, to be read. Nothing is locked: a file is replaced at once, never in part.
+pub fn load(path: &Path) -> Result<Drive, Failure> {
+    ensure_plain(path)?;
+    let fail = |e| Purpose::Image.failed(path, &e);
+    let mut file = File::open(path).map_err(fail)?;
+    let before = Identity::of(&file.metadata().map_err(fail)?);
+    let image = read(&mut file, before.length()).map_err(fail)?;
+    if Identity::of(&file.metadata().map_err(fail)?) != before {
+        return Err(Failure::work(format!(
+            "{} was changed by another program while it was read; try again when that has ended",
+            words::shown(path)
+        )));
+    }
+    drive_with(path, image, before.length())
+}
+
+/// A drive with the image of this file in it, and the file held so that it can be replaced.
+pub fn take(path: &Path) -> Result<(HeldFile, Drive), Failure> {
+    let (held, image, length) = take_unjudged(path)?;
+    Ok((held, drive_with(path, image, length)?))
+}
+
+/// The file held, the bytes of the image, and the length of the file. Of a file that is no image only the header is read.
+pub fn take_unjudged(path: &Path) -> Result<(HeldFile, Vec<u8>, u64), Failure> {
+    ensure_plain(path)?;
+    let mut held = HeldFile::take(path, Purpose::Image)?;
+    let fail = |e| Purpose::Image.failed(path, &e);
+    let Some((file, length)) = held.content() else {
+        return Err(fail(io::ErrorKind::NotFound.into()));
+    };
+    let image = read(file, length).map_err(fail)?;
+    Ok((held, image, length))
+}
+
+fn ensure_plain(path: &Path) -> Result<(), Failure> {
+    match fs::metadata(path) {
+        Ok(metadata) if !metadata.is_file() => Err(Failure::work(format!(
             "{} is no plain file; name a cartridge image",
             words::shown(path)
         ))),
-        Err(e) => Err(Failure::work(format!(
-            "the image {} could not be read: {}; tapecard new makes one",
-            words::shown(path),
-            words::io_error(&e)
-        ))),
+        _ => Ok(()),
     }
 }
 
-/// A drive with the image of this file in it.
-pub fn load(path: &Path) -> Result<Drive, Failure> {
-    let image = read(path)?;
-    let length = image.len();
+/// The header is judged first, so that a large file that is no image is not read into memory.
+fn read(file: &mut File, length: u64) -> io::Result<Vec<u8>> {
+    let mut image = Vec::new();
+    file.take(header::LENGTH as u64).read_to_end(&mut image)?;
+    if Header::read(&image).is_some_and(|header| header.allows(length)) {
+        file.read_to_end(&mut image)?;
+    }
+    Ok(image)
+}
+
+fn drive_with(path: &Path, image: Vec<u8>, length: u64) -> Result<Drive, Failure> {
+    if (image.len() as u64) < length {
+        return Err(not_taken(path, length, BROKEN_HEADER));
+    }
     Drive::with(image).map_err(|refusal| not_taken(path, length, refusal))
 }
 
-fn not_taken(path: &Path, length: usize, refusal: Refusal) -> Failure {
+fn not_taken(path: &Path, length: u64, refusal: Refusal) -> Failure {
     Failure::work(format!(
-        "{} is no whole cartridge image ({refusal}). The file has {length} bytes: it may have been cut short, or be \
-         something else. Take another copy, or make a fresh image with tapecard new",
-        words::shown(path)
+        "{} is no whole cartridge image ({refusal}). The file has {}: it may have been cut short, or be something else. \
+         Take another copy, or make a fresh image with tapecard new",
+        words::shown(path),
+        words::count(length, "byte")
     ))
 }

@@ -1,5 +1,6 @@
 //! A pulse drive's record as a person wants to see it.
 
+use tapecard::bytes::train;
 use tapecard::pulse::{Motion, Record};
 
 use crate::words;
@@ -96,6 +97,20 @@ pub fn changes(before: &Record, after: &Record) -> Vec<String> {
         waiting(after),
     );
     lines
+}
+
+/// What a train is for a drive in this state.
+pub fn meaning(pulses: u16, before: &Record) -> String {
+    let name = words::pulses::train_name(pulses).unwrap_or("no command of this drive");
+    if pulses == train::SOFT_RESET || before.waiting_code() == 0 {
+        return name.into();
+    }
+    let number = u16::from(before.arguments_held()) + 1;
+    let code = before.waiting_code();
+    format!(
+        "argument {number} of {code}, value {}",
+        i32::from(pulses) - 2
+    )
 }
 
 fn cartridge(record: &Record) -> String {

@@ -4,6 +4,7 @@ use crate::command_line::failure::Failure;
 use crate::tape::drive::{Drive, Ended};
 use crate::tape::label::Label;
 use crate::tape::packets;
+use crate::tape::reading::Blocks;
 use crate::words;
 
 #[derive(Debug)]
@@ -60,19 +61,27 @@ fn read_label(drive: &mut Drive) -> Result<Option<Label>, Failure> {
     })
 }
 
+/// The blocks that are there beside those that the label tells of.
+#[derive(Clone, Copy, Debug, PartialEq, Eq)]
+pub enum Fit {
+    Whole,
+    CutShort,
+    TooLong,
+}
+
 impl TapeFile {
-    /// The label speaks of other blocks than there are.
-    pub fn cut_short(&self, block_size: usize) -> bool {
-        let there = u64::from(self.blocks);
-        let told = |label: &Label| label.data_blocks(block_size).saturating_add(1);
-        self.label
-            .as_ref()
-            .is_some_and(|label| told(label) != there)
+    pub fn fit(&self, block_size: usize) -> Fit {
+        let there = u64::from(self.content().blocks);
+        match self.label.as_ref().map(|l| l.data_blocks(block_size)) {
+            Some(told) if there < told => Fit::CutShort,
+            Some(told) if there > told => Fit::TooLong,
+            _ => Fit::Whole,
+        }
     }
 
     pub fn name(&self) -> String {
         match &self.label {
-            Some(label) => words::plain(&String::from_utf8_lossy(&label.name)),
+            Some(label) => words::names::bytes_shown(&label.name),
             None => "-".into(),
         }
     }
@@ -84,20 +93,29 @@ impl TapeFile {
 
     /// What a reader of the list should know beside the numbers.
     pub fn remark(&self, block_size: usize) -> &'static str {
-        if self.cut_short(block_size) {
-            "cut short"
-        } else if !self.closed {
-            "no filemark"
-        } else if self.label.is_none() {
-            "no label"
-        } else {
-            ""
+        match self.fit(block_size) {
+            Fit::CutShort => "cut short",
+            Fit::TooLong => "longer than its label says",
+            Fit::Whole if !self.closed => "no filemark",
+            Fit::Whole if self.label.is_none() => "no label",
+            Fit::Whole => "",
         }
     }
 
-    /// The place and the number of the blocks with the file's own bytes.
-    pub fn content(&self) -> (u32, u32) {
+    /// The blocks with the file's own bytes.
+    pub fn content(&self) -> Blocks {
         let label = u32::from(self.label.is_some());
-        (self.place + label, self.blocks - label)
+        Blocks {
+            place: self.place + label,
+            blocks: self.blocks - label,
+        }
+    }
+
+    /// All its blocks, a label among them.
+    pub fn whole(&self) -> Blocks {
+        Blocks {
+            place: self.place,
+            blocks: self.blocks,
+        }
     }
 }

@@ -13,8 +13,6 @@ pub struct Tape<'a> {
     pub warning: Option<usize>,
 }
 
-pub const LEGEND: &str = "# data   | filemark   ! unreadable   . blank";
-
 /// The strip with its marks, a line each.
 pub fn draw(tape: &Tape) -> Vec<String> {
     let cells: String = (0..tape.cells()).map(|c| tape.cell(c)).collect();
@@ -28,15 +26,21 @@ pub fn draw(tape: &Tape) -> Vec<String> {
     lines
 }
 
-/// What a cell stands for.
-pub fn scale(tape: &Tape) -> String {
+/// What the characters and a cell stand for, a line each.
+pub fn legend(tape: &Tape) -> Vec<String> {
     if tape.capacity <= CELLS {
-        return "one cell for each element".into();
+        return vec![
+            "# data   | filemark   ! unreadable   . blank".into(),
+            "one cell for each element".into(),
+        ];
     }
-    format!(
-        "one cell for about {:.0} elements; it shows the first of these that it holds: unreadable, filemark, data",
-        tape.capacity as f64 / CELLS as f64
-    )
+    vec![
+        "# data   | filemarks   + data and filemarks   ! some unreadable   . blank".into(),
+        format!(
+            "one cell for about {:.0} elements",
+            tape.capacity as f64 / CELLS as f64
+        ),
+    ]
 }
 
 impl Tape<'_> {
@@ -44,19 +48,17 @@ impl Tape<'_> {
         self.capacity.min(CELLS)
     }
 
-    /// The most notable of a cell's elements.
+    /// What a cell's elements are; one that is unreadable counts before all others.
     fn cell(&self, cell: usize) -> char {
         let first = self.first_of(cell).min(self.kinds.len());
         let beyond = self.first_of(cell + 1).min(self.kinds.len());
-        let held = &self.kinds[first..beyond];
-        if held.contains(&Kind::Unreadable) {
-            '!'
-        } else if held.contains(&Kind::Filemark) {
-            '|'
-        } else if held.contains(&Kind::Data) {
-            '#'
-        } else {
-            '.'
+        let holds = |kind: Kind| self.kinds[first..beyond].contains(&kind);
+        match (holds(Kind::Data), holds(Kind::Filemark)) {
+            _ if holds(Kind::Unreadable) => '!',
+            (true, true) => '+',
+            (false, true) => '|',
+            (true, false) => '#',
+            (false, false) => '.',
         }
     }
 
@@ -108,7 +110,7 @@ mod tests {
             kinds: &kinds,
             warning: None,
         };
-        assert_eq!(draw(&tape)[0], format!("  [|{}]", ".".repeat(63)));
+        assert_eq!(draw(&tape)[0], format!("  [+{}]", ".".repeat(63)));
         for place in 0..tape.capacity {
             let cell = tape.column_of(place);
             assert!(tape.first_of(cell) <= place && place < tape.first_of(cell + 1));

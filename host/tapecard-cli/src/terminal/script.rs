@@ -1,8 +1,12 @@
 //! Lines typed on standard input or fed to it.
 
-use std::io::{self, BufRead, IsTerminal, Write};
+use std::io::{self, BufRead, BufReader, IsTerminal, Read, Write};
 
 use crate::command_line::failure::Failure;
+use crate::terminal::output;
+
+/// Lines that are there already are answered together; a longer script in parts of this many bytes.
+const AT_ONCE: usize = 64 * 1024;
 
 /// What a line asks of the session.
 #[derive(Clone, Copy, PartialEq, Eq)]
@@ -11,20 +15,28 @@ pub enum Flow {
     Ends,
 }
 
-/// Hands each line that holds more than a comment to `each`. On a terminal a bad line is told and the session goes on; in a script
-/// it ends the run, and nothing of it is kept.
-pub fn each_line(
-    session: &str,
-    out: &mut dyn Write,
-    mut each: impl FnMut(&str, &mut dyn Write) -> Result<Flow, Failure>,
-) -> Result<(), Failure> {
+/// A session that takes lines.
+pub trait Session {
+    /// The word before the line that is waited for.
+    const PROMPT: &'static str;
+
+    fn line(&mut self, line: &str, told: &mut dyn Write) -> Result<Flow, Failure>;
+
+    /// Keeps on the disk what the lines so far have changed.
+    fn keep(&mut self) -> Result<(), Failure>;
+}
+
+/// Hands each line that holds more than a comment to the session. What a line changed is kept before its answer is shown, so that
+/// nothing that was answered is lost. On a terminal a bad line is told and the session goes on; in a script it ends the run.
+pub fn run<S: Session>(session: &mut S, out: &mut dyn Write) -> Result<(), Failure> {
     let typed = io::stdin().is_terminal();
-    let mut input = io::stdin().lock();
+    let mut input = BufReader::with_capacity(AT_ONCE, io::stdin().lock());
+    let mut told = Vec::new();
     for number in 1_u64.. {
-        if typed {
-            write!(out, "{session}> ")?;
+        if !a_line_is_here(&input) {
+            keep_and_tell(session, &mut told, out)?;
+            prompt::<S>(typed, out)?;
         }
-        out.flush()?;
         let Some(line) = next_line(&mut input)? else {
             if typed {
                 writeln!(out)?;
@@ -35,21 +47,47 @@ pub fn each_line(
         if words.is_empty() {
             continue;
         }
-        match each(words, out) {
+        match session.line(words, &mut told) {
             Ok(Flow::Goes) => {}
             Ok(Flow::Ends) => break,
-            Err(Failure::Work(sentence)) if typed => writeln!(out, "{sentence}")?,
-            Err(Failure::Work(sentence)) => return Err(bad_line(number, &sentence)),
-            Err(failure) => return Err(failure),
+            Err(Failure::Work(sentence)) if typed => writeln!(told, "{sentence}")?,
+            Err(failure) => {
+                keep_and_tell(session, &mut told, out)?;
+                return Err(bad_line(number, failure));
+            }
         }
+    }
+    keep_and_tell(session, &mut told, out)
+}
+
+pub fn keep_and_tell(
+    session: &mut impl Session,
+    told: &mut Vec<u8>,
+    out: &mut dyn Write,
+) -> Result<(), Failure> {
+    session.keep()?;
+    output::tell_answers(out, told)
+}
+
+fn a_line_is_here<R: Read>(input: &BufReader<R>) -> bool {
+    input.buffer().contains(&b'\n')
+}
+
+fn prompt<S: Session>(typed: bool, out: &mut dyn Write) -> Result<(), Failure> {
+    if typed {
+        write!(out, "{}> ", S::PROMPT)?;
+        out.flush()?;
     }
     Ok(())
 }
 
-fn bad_line(number: u64, sentence: &str) -> Failure {
-    Failure::work(format!(
-        "line {number}: {sentence}; nothing of this run was kept"
-    ))
+fn bad_line(number: u64, failure: Failure) -> Failure {
+    match failure {
+        Failure::Work(sentence) => Failure::work(format!(
+            "line {number}: {sentence}; the script ends here, and what the lines before it did is kept"
+        )),
+        other => other,
+    }
 }
 
 fn next_line(input: &mut impl BufRead) -> Result<Option<String>, Failure> {

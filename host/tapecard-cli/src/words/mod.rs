@@ -1,28 +1,13 @@
 //! Names, numbers, packets and pulses as a person reads them.
 
 pub mod hex;
+pub mod names;
 pub mod packets;
 pub mod pulses;
 
-use std::ffi::OsStr;
 use std::io::{self, ErrorKind};
 
-/// A name for the screen: what is no text and what would steer the terminal is shown escaped.
-pub fn shown(name: impl AsRef<OsStr>) -> String {
-    plain(&name.as_ref().to_string_lossy())
-}
-
-/// Text without control characters.
-pub fn plain(text: &str) -> String {
-    let escape = |c: char| -> String {
-        if c.is_control() {
-            c.escape_default().collect()
-        } else {
-            c.into()
-        }
-    };
-    text.chars().map(escape).collect()
-}
+pub use names::{plain, shown};
 
 /// A number in decimal, or in hexadecimal after `0x`.
 pub fn number(text: &str) -> Option<u32> {
@@ -51,6 +36,8 @@ pub fn io_error(error: &io::Error) -> String {
         ErrorKind::PermissionDenied => "permission is denied".into(),
         ErrorKind::IsADirectory => "it is a directory".into(),
         ErrorKind::StorageFull => "the disk is full".into(),
+        ErrorKind::BrokenPipe => "its reader has closed it".into(),
+        ErrorKind::ReadOnlyFilesystem => "its disk is read-only".into(),
         _ => error.to_string(),
     }
 }
@@ -76,11 +63,5 @@ mod tests {
         ] {
             assert_eq!(number(text), None, "{text}");
         }
-    }
-
-    #[test]
-    fn names_cannot_steer_the_terminal() {
-        assert_eq!(plain("a\u{1b}[2Jb\n"), "a\\u{1b}[2Jb\\n");
-        assert_eq!(plain("ไทย"), "ไทย");
     }
 }

@@ -49,7 +49,7 @@ pub fn read(line: &str) -> Result<Line, Failure> {
         ("quit" | "exit", []) => Ok(Line::Quit),
         _ if first.starts_with(|c: char| c.is_ascii_digit()) => read_trains(&all),
         _ => Err(wrong(&format!(
-            "{:?} is no line of a pulse session",
+            "\"{}\" is no line of a pulse session",
             words::plain(line)
         ))),
     }
@@ -80,7 +80,7 @@ fn read_pulses(word: &str) -> Result<u16, Failure> {
     let pulses = words::number(word).and_then(|n| u16::try_from(n).ok());
     pulses.ok_or_else(|| {
         wrong(&format!(
-            "{:?} is no train: a train has up to 65535 pulses",
+            "\"{}\" is no train: a train has up to 65535 pulses",
             words::plain(word)
         ))
     })
@@ -90,7 +90,7 @@ fn read_times(word: &str) -> Result<u32, Failure> {
     let times = words::number(word).filter(|n| (1..=MOST_TIMES).contains(n));
     times.ok_or_else(|| {
         wrong(&format!(
-            "{:?} is no number of times from 1 to {MOST_TIMES}",
+            "\"{}\" is no number of times from 1 to {MOST_TIMES}",
             words::plain(word)
         ))
     })
@@ -98,7 +98,7 @@ fn read_times(word: &str) -> Result<u32, Failure> {
 
 fn read_limit(word: &str) -> Result<u32, Failure> {
     words::number(word)
-        .ok_or_else(|| wrong(&format!("{:?} is no number of ticks", words::plain(word))))
+        .ok_or_else(|| wrong(&format!("\"{}\" is no number of ticks", words::plain(word))))
 }
 
 fn read_cartridge(described: &[&str]) -> Result<Cartridge, Failure> {
@@ -139,7 +139,7 @@ fn describe(cartridge: &mut Cartridge, word: &str) -> Result<(), Failure> {
         None if word == "wide" => cartridge.wide = true,
         _ => {
             return Err(wrong(&format!(
-                "{:?} describes no cartridge",
+                "\"{}\" describes no cartridge",
                 words::plain(word)
             )));
         }
@@ -149,7 +149,12 @@ fn describe(cartridge: &mut Cartridge, word: &str) -> Result<(), Failure> {
 
 fn field<T: TryFrom<u32>>(word: &str, number: &str) -> Result<T, Failure> {
     let value = words::number(number).and_then(|n| T::try_from(n).ok());
-    value.ok_or_else(|| wrong(&format!("{:?} has no number that fits", words::plain(word))))
+    value.ok_or_else(|| {
+        wrong(&format!(
+            "\"{}\" has no number that fits",
+            words::plain(word)
+        ))
+    })
 }
 
 #[cfg(test)]

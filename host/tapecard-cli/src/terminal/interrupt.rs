@@ -1,0 +1,65 @@
+//! A run that is interrupted leaves no unfinished file behind, and says what it kept.
+
+use std::fs;
+use std::path::{Path, PathBuf};
+use std::process;
+use std::sync::{Mutex, MutexGuard, PoisonError};
+use std::thread;
+
+use crate::command_line::failure::complain;
+use crate::system::signals::{HANGUP, INTERRUPT, Signals, TERMINATE};
+use crate::words;
+
+/// What an interrupt has to know. Whoever changes a file's name holds this, so that an interrupt comes before or after it.
+#[derive(Default)]
+pub struct Unfinished {
+    /// The file that is being written beside the one it will replace.
+    pub part: Option<PathBuf>,
+    kept: Vec<String>,
+}
+
+static UNFINISHED: Mutex<Unfinished> = Mutex::new(Unfinished {
+    part: None,
+    kept: Vec::new(),
+});
+
+pub fn unfinished() -> MutexGuard<'static, Unfinished> {
+    UNFINISHED.lock().unwrap_or_else(PoisonError::into_inner)
+}
+
+impl Unfinished {
+    /// This file has its new content.
+    pub fn is_kept(&mut self, path: &Path) {
+        let name = words::shown(path);
+        if !self.kept.contains(&name) {
+            self.kept.push(name);
+        }
+    }
+
+    fn told(&self) -> String {
+        match self.kept.as_slice() {
+            [] => "interrupted; nothing was changed".into(),
+            kept => format!(
+                "interrupted; what was answered before is kept in {}",
+                kept.join(", ")
+            ),
+        }
+    }
+}
+
+/// Watches for the signals that end a run: from a terminal, a kill, or a line that hung up.
+pub fn watch() {
+    let signals = Signals::not_ignored(&[HANGUP, INTERRUPT, TERMINATE]);
+    signals.hold_back();
+    thread::spawn(move || {
+        let number = signals.wait();
+        // Never let go: the run must not rename its part now.
+        let unfinished = unfinished();
+        if let Some(part) = &unfinished.part {
+            let _ = fs::remove_file(part);
+        }
+        complain(&unfinished.told());
+        signals.end_by(number);
+        process::exit(1);
+    });
+}
