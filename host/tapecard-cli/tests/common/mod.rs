@@ -4,9 +4,10 @@
 #![allow(dead_code)]
 
 use std::fs;
-use std::io::Write;
+use std::io::{Read, Write};
+use std::os::unix::process::ExitStatusExt;
 use std::path::{Path, PathBuf};
-use std::process::{self, Command, Stdio};
+use std::process::{self, Child, Command, Stdio};
 use std::sync::atomic::{AtomicU32, Ordering};
 
 /// A directory that goes away with the test.
@@ -15,6 +16,7 @@ pub struct Place {
 }
 
 pub struct Said {
+    /// The exit status; where a signal ended the command, its number below 0.
     pub status: i32,
     pub out: String,
     pub err: String,
@@ -68,7 +70,93 @@ impl Place {
     }
 
     pub fn run_with(&self, words: &[&str], input: &[u8]) -> Said {
-        run_in(&self.directory, words, input)
+        let mut running = self.start(words);
+        running.send(input);
+        running.end()
+    }
+
+    /// Starts the command and goes on while it runs.
+    pub fn start(&self, words: &[&str]) -> Running {
+        let mut command = tapecard();
+        command.args(words);
+        self.start_command(command)
+    }
+
+    /// Runs a line of the shell in which `$TAPECARD` is the command.
+    pub fn shell(&self, line: &str) -> Said {
+        let mut shell = Command::new("sh");
+        shell
+            .args(["-c", line])
+            .env("TAPECARD", command_words().join(" "));
+        self.start_command(shell).end()
+    }
+
+    fn start_command(&self, mut command: Command) -> Running {
+        let child = command
+            .current_dir(&self.directory)
+            .stdin(Stdio::piped())
+            .stdout(Stdio::piped())
+            .stderr(Stdio::piped())
+            .spawn()
+            .expect("the command starts");
+        Running { child }
+    }
+}
+
+/// A command that is at work.
+pub struct Running {
+    child: Child,
+}
+
+impl Running {
+    /// A command that does not read its input may have ended before it is written.
+    pub fn send(&mut self, input: &[u8]) {
+        let _ = self
+            .child
+            .stdin
+            .as_mut()
+            .expect("its input")
+            .write_all(input);
+    }
+
+    /// Reads its output until this text has come.
+    pub fn hear(&mut self, text: &str) -> String {
+        let out = self.child.stdout.as_mut().expect("its output");
+        let mut heard = Vec::new();
+        let mut byte = [0];
+        while !String::from_utf8_lossy(&heard).ends_with(text) {
+            let read = out.read(&mut byte).expect("its output is read");
+            let so_far = String::from_utf8_lossy(&heard).into_owned();
+            assert_eq!(read, 1, "it ended before {text:?}: {so_far}");
+            heard.push(byte[0]);
+        }
+        String::from_utf8_lossy(&heard).into_owned()
+    }
+
+    /// Sends a signal by its name.
+    pub fn signal(&self, name: &str) {
+        let number = self.child.id().to_string();
+        let sent = Command::new("kill").args(["-s", name, &number]).status();
+        assert!(sent.expect("kill runs").success());
+    }
+
+    /// Closes its output, as `head` does when it has seen enough.
+    pub fn close_output(&mut self) {
+        self.child.stdout = None;
+    }
+
+    pub fn end(mut self) -> Said {
+        self.child.stdin = None;
+        let done = self.child.wait_with_output().expect("the command ends");
+        Said {
+            status: done
+                .status
+                .code()
+                .unwrap_or_else(|| -done.status.signal().expect("a signal ended it")),
+            out: String::from_utf8_lossy(&done.stdout).into_owned(),
+            err: String::from_utf8_lossy(&done.stderr).into_owned(),
+            bytes: done.stdout,
+        }
     }
 }
 
@@ -107,34 +195,25 @@ impl Said {
     }
 }
 
-fn run_in(directory: &Path, words: &[&str], input: &[u8]) -> Said {
-    let mut child = tapecard()
-        .args(words)
-        .current_dir(directory)
-        .stdin(Stdio::piped())
-        .stdout(Stdio::piped())
-        .stderr(Stdio::piped())
-        .spawn()
-        .expect("the command starts");
-    // A command that does not read its input may have ended before it is written.
-    let _ = child.stdin.take().expect("its input").write_all(input);
-    let done = child.wait_with_output().expect("the command ends");
-    Said {
-        status: done.status.code().expect("the command ends by itself"),
-        out: String::from_utf8_lossy(&done.stdout).into_owned(),
-        err: String::from_utf8_lossy(&done.stderr).into_owned(),
-        bytes: done.stdout,
-    }
+/// The command, under the emulator that the environment names where the archive is for another processor. `TAPECARD` may name
+/// another build of it.
+fn tapecard() -> Command {
+    let words = command_words();
+    let mut command = Command::new(&words[0]);
+    command.args(&words[1..]);
+    command
 }
 
-/// The command, under the emulator that the environment names where the archive is for another processor.
-fn tapecard() -> Command {
-    let program = env!("CARGO_BIN_EXE_tapecard");
-    let emulator = std::env::var("TAPECARD_RUN").unwrap_or_default();
-    let mut words = emulator.split_whitespace().chain([program]);
-    let mut command = Command::new(words.next().unwrap_or(program));
-    command.args(words);
-    command
+fn command_words() -> Vec<String> {
+    let word = |name: &str| std::env::var(name).unwrap_or_default();
+    let emulator = word("TAPECARD_RUN");
+    let mut words: Vec<String> = emulator.split_whitespace().map(String::from).collect();
+    let other = word("TAPECARD");
+    words.push(match other.as_str() {
+        "" => env!("CARGO_BIN_EXE_tapecard").into(),
+        _ => other,
+    });
+    words
 }
 
 /// Bytes that look random and are the same in every run.
