@@ -101,8 +101,8 @@ impl HeldFile {
         part.fill(content)?;
         self.ensure_unchanged()?;
         let file = match self.there {
-            Some(_) => part.replace(&self.real)?,
-            None => part.create(&self.real)?,
+            Some(_) => part.replace(&self.real, &self.path)?,
+            None => part.create(&self.real, &self.path)?,
         };
         self.there = Some(There::of(file)?);
         Ok(())

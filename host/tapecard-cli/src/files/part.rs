@@ -83,19 +83,20 @@ impl Part {
         self.file.sync_all()
     }
 
-    /// Takes the target's name and place. The file comes back open and locked.
-    pub fn replace(self, target: &Path) -> io::Result<File> {
-        self.take_name(target, |part, target| fs::rename(part, target))
+    /// Takes the target's name and place. The file comes back open and locked; `told` is its name for an interrupt to tell.
+    pub fn replace(self, target: &Path, told: &Path) -> io::Result<File> {
+        self.take_name(target, told, |part, target| fs::rename(part, target))
     }
 
     /// Takes a name that nobody has: a file that came meanwhile stays.
-    pub fn create(self, target: &Path) -> io::Result<File> {
-        self.take_name(target, name_where_none_is)
+    pub fn create(self, target: &Path, told: &Path) -> io::Result<File> {
+        self.take_name(target, told, name_where_none_is)
     }
 
     fn take_name(
         mut self,
         target: &Path,
+        told: &Path,
         rename: impl FnOnce(&Path, &Path) -> io::Result<()>,
     ) -> io::Result<File> {
         let file = self.file.try_clone()?;
@@ -103,7 +104,7 @@ impl Part {
         rename(&self.path, target)?;
         self.named = true;
         unfinished.part = None;
-        unfinished.is_kept(target);
+        unfinished.is_kept(told);
         drop(unfinished);
         flush_folder(target)?;
         Ok(file)

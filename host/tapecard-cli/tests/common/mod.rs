@@ -6,7 +6,7 @@
 use std::fs;
 use std::io::{Read, Write};
 use std::os::unix::process::ExitStatusExt;
-use std::path::{Path, PathBuf};
+use std::path::PathBuf;
 use std::process::{self, Child, Command, Stdio};
 use std::sync::atomic::{AtomicU32, Ordering};
 
@@ -134,10 +134,19 @@ impl Running {
     }
 
     /// Sends a signal by its name.
-    pub fn signal(&self, name: &str) {
+    fn signal(&self, name: &str) {
         let number = self.child.id().to_string();
         let sent = Command::new("kill").args(["-s", name, &number]).status();
         assert!(sent.expect("kill runs").success());
+    }
+
+    /// Sends a signal and waits for the end that it brings; input stays open until then.
+    pub fn end_by(mut self, signal: &str) -> Said {
+        self.signal(signal);
+        let input = self.child.stdin.take();
+        let said = self.end();
+        drop(input);
+        said
     }
 
     /// Closes its output, as `head` does when it has seen enough.
