@@ -29,8 +29,8 @@ name in this directory, if it is whole and its checksum is right.
   -o FILE    write it to FILE; - is standard output
   --force    replace a file that is there
   --raw      all its blocks as they are, a label among them; needs -o
-  --salvage  take what can be read of a damaged file, zeros for what cannot; says
-             what is missing and ends with status 1
+  --salvage  take what can be read of a damaged file, zeros for what cannot be;
+             says what is missing and ends with status 1
 A file without a label is taken in whole blocks and needs -o.
 ";
 

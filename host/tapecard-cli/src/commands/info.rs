@@ -84,12 +84,16 @@ fn show_counts(kinds: &[Kind], header: &Header, out: &mut dyn Write) -> Result<(
     let count = |kind: Kind| kinds.iter().filter(|k| **k == kind).count() as u64;
     writeln!(
         out,
-        "  recorded       {}: {}, {}, {} unreadable; {} blank",
+        "  recorded       {}, {} blank",
         words::count(kinds.len() as u64, "element"),
+        (header.capacity as usize).saturating_sub(kinds.len())
+    )?;
+    writeln!(
+        out,
+        "  of these       {}, {}, {} unreadable",
         words::count(count(Kind::Data), "data block"),
         words::count(count(Kind::Filemark), "filemark"),
-        count(Kind::Unreadable),
-        (header.capacity as usize).saturating_sub(kinds.len())
+        count(Kind::Unreadable)
     )?;
     Ok(())
 }

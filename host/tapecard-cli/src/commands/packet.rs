@@ -24,13 +24,13 @@ standard input, and shows status, blocks, bytes, position and sense. A line may
 also be `change` (another cartridge was put in) or `quit`; # begins a comment.
 What a packet stored is on the disk before its answer is shown, so an interrupt
 (Ctrl-C) loses nothing that was answered; a bad line ends a script there.
-  --record FILE  keep the drive's record of 16 bytes between runs; a file that is
-                 not there is begun with a drive just switched on
+  --record FILE  keep the drive's record of 16 bytes between runs; a file that
+                 is not there is begun with a drive just switched on
   --cold         without --record: leave the attention of power-on pending, so
                  that the first packet meets it (else it is taken before)
   --data FILE    bytes that WRITE and MODE SELECT take, one after the other
-  --out FILE     bytes that the other packets return, one after the other; with -
-                 they go to standard output, and the words to standard error
+  --out FILE     bytes that the other packets return, one after the other; with
+                 - they go to standard output, and words to standard error
   --force        replace the file of --out where one is there
   --any-answer   end with status 0 also where the drive answered CHECK CONDITION
   --room BYTES   lend that much room to the packet, not what it needs

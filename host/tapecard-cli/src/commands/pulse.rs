@@ -20,8 +20,8 @@ usage: tapecard pulse [--record FILE] [--vendor N] [--rom N]
 A session with the pulse drive: each line of standard input is a call. What a
 line changed is on the disk before its answer is shown, so an interrupt (Ctrl-C)
 loses nothing that was answered; a bad line ends a script there.
-  --record FILE  keep the drive's record of 32 bytes between runs; a file that is
-                 not there is begun with a drive just switched on
+  --record FILE  keep the drive's record of 32 bytes between runs; a file that
+                 is not there is begun with a drive just switched on
   --vendor N     vendor ID of a drive switched on, 0 to 65535
   --rom N        ROM version of a drive switched on, 0 to 255
 

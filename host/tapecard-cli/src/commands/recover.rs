@@ -26,10 +26,10 @@ usage: tapecard recover [--record FILE]
 
 Brings a lost pulse drive back: after as many ticks as its track has segments
 come the 46 recovery trains (eighteen 2s; 6 and nine 2s; 7 and seventeen 2s),
-each shown with its bit. Tells which error was held and by which command, and how
-the drive stands.
-  --record FILE  the drive's record, as tapecard pulse keeps it; it must be there.
-                 Without it a drive just switched on is shown
+each shown with its bit. Tells which error was held and by which command, and
+how the drive stands.
+  --record FILE  the drive's record, as tapecard pulse keeps it; it must be
+                 there. Without it a drive just switched on is shown
 ";
 
 pub const COMMAND: Command = Command {
