@@ -75,7 +75,7 @@ fn long_pulse_session() {
     let broken = bench.seen.branches.get(&Branch::Refused(8));
     assert_eq!(broken, None, "every call keeps the record rules");
     say(&format!(
-        "pulse drive: one session of {} calls compared, {} branches",
+        "pulse drive: seed {seed:#x}, one session of {} calls compared, {} branches",
         bench.seen.calls,
         bench.seen.branches.len()
     ));
