@@ -16,6 +16,12 @@ const USUAL_CALLS: u64 = 600_000;
 /// A run shorter than this is not asked to go everywhere.
 const COVERAGE_FROM: u64 = 300_000;
 
+/// The names that the tests go by are those of the model's list.
+#[test]
+fn the_named_opcodes_are_the_models() {
+    assert_eq!(opcode::ALL, OPCODES);
+}
+
 #[test]
 fn packet_drive() {
     let seed = seed_wanted();
@@ -114,60 +120,46 @@ fn triples() -> BTreeSet<[u8; 3]> {
     ])
 }
 
+/// The endings that each command has of its own, by opcode and variant.
+const OWN_ENDINGS: [(u8, u8, &[Ending]); 27] = {
+    use Ending::*;
+    use opcode::*;
+    [
+        (TEST_UNIT_READY, 0, &[Good, NotLoaded]),
+        (REWIND, 0, &[Good, NotLoaded]),
+        (REQUEST_SENSE, 0, &[Good, Refused(4)]),
+        (READ, 0, &[BadField, NotLoaded, Refused(4), Good]),
+        (READ, 0, &[AtFilemark, AtUnreadable, AtEndOfData]),
+        (WRITE, 0, &[BadField, NotLoaded, Protected, Refused(4)]),
+        (WRITE, 0, &[Good, CartridgeFull, EarlyWarning]),
+        (WRITE_FILEMARK, 0, &[NotLoaded, Protected]),
+        (WRITE_FILEMARK, 0, &[Good, CartridgeFull, EarlyWarning]),
+        (SPACE, 0, &[Good, NotLoaded, AtFilemark, AtEndOfData]),
+        (SPACE, 8, &[Good, NotLoaded, AtFilemark, AtBeginning]),
+        (SPACE, 1, &[Good, AtEndOfData]),
+        (SPACE, 8 + 1, &[Good, AtBeginning]),
+        (SPACE, 3, &[Good, NotLoaded]),
+        (SPACE, 8 + 3, &[Good]),
+        (SPACE, 2, &[BadField]),
+        (SPACE, 7, &[BadField]),
+        (INQUIRY, 0, &[Good, Refused(4)]),
+        (MODE_SELECT, 0, &[Good]),
+        (MODE_SELECT, 12, &[Good, Refused(4)]),
+        (MODE_SELECT, 32, &[Good, Refused(4), BadList]),
+        (MODE_SELECT, 31, &[BadListLength]),
+        (MODE_SENSE, 0, &[Good, Refused(4)]),
+        (MODE_SENSE, page::CODE, &[Good, Refused(4)]),
+        (LOAD_UNLOAD, 0, &[Good, BadField]),
+        (LOCATE, 0, &[BadField, NotLoaded, Good, LocatedBeyond]),
+        (READ_POSITION, 0, &[NotLoaded, Refused(4), Good]),
+    ]
+};
+
 /// Every way that a packet can end, by opcode and variant.
 fn wanted_endings() -> Vec<(u8, u8, Ending)> {
     use Ending::*;
-    let own: [(u8, u8, &[Ending]); 27] = [
-        (opcode::TEST_UNIT_READY, 0, &[Good, NotLoaded]),
-        (opcode::REWIND, 0, &[Good, NotLoaded]),
-        (opcode::REQUEST_SENSE, 0, &[Good, Refused(4)]),
-        (opcode::READ, 0, &[BadField, NotLoaded, Refused(4), Good]),
-        (opcode::READ, 0, &[AtFilemark, AtUnreadable, AtEndOfData]),
-        (
-            opcode::WRITE,
-            0,
-            &[BadField, NotLoaded, Protected, Refused(4)],
-        ),
-        (opcode::WRITE, 0, &[Good, CartridgeFull, EarlyWarning]),
-        (opcode::WRITE_FILEMARK, 0, &[NotLoaded, Protected]),
-        (
-            opcode::WRITE_FILEMARK,
-            0,
-            &[Good, CartridgeFull, EarlyWarning],
-        ),
-        (
-            opcode::SPACE,
-            0,
-            &[Good, NotLoaded, AtFilemark, AtEndOfData],
-        ),
-        (
-            opcode::SPACE,
-            8,
-            &[Good, NotLoaded, AtFilemark, AtBeginning],
-        ),
-        (opcode::SPACE, 1, &[Good, AtEndOfData]),
-        (opcode::SPACE, 8 + 1, &[Good, AtBeginning]),
-        (opcode::SPACE, 3, &[Good, NotLoaded]),
-        (opcode::SPACE, 8 + 3, &[Good]),
-        (opcode::SPACE, 2, &[BadField]),
-        (opcode::SPACE, 7, &[BadField]),
-        (opcode::INQUIRY, 0, &[Good, Refused(4)]),
-        (opcode::MODE_SELECT, 0, &[Good]),
-        (opcode::MODE_SELECT, 12, &[Good, Refused(4)]),
-        (opcode::MODE_SELECT, 32, &[Good, Refused(4), BadList]),
-        (opcode::MODE_SELECT, 31, &[BadListLength]),
-        (opcode::MODE_SENSE, 0, &[Good, Refused(4)]),
-        (opcode::MODE_SENSE, page::CODE, &[Good, Refused(4)]),
-        (opcode::LOAD_UNLOAD, 0, &[Good, BadField]),
-        (
-            opcode::LOCATE,
-            0,
-            &[BadField, NotLoaded, Good, LocatedBeyond],
-        ),
-        (opcode::READ_POSITION, 0, &[NotLoaded, Refused(4), Good]),
-    ];
     let mut wanted = Vec::new();
-    for (opcode, variant, endings) in own {
+    for (opcode, variant, endings) in OWN_ENDINGS {
         wanted.extend(endings.iter().map(|&ending| (opcode, variant, ending)));
     }
     wanted.push((opcode::MODE_SENSE, 0x2B, BadField));

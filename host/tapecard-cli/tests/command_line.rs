@@ -38,6 +38,7 @@ fn every_line_of_help_fits_a_terminal() {
     let place = Place::new();
     let general = place.run(&["help"]).out;
     let helps = COMMANDS.map(|command| place.run(&[command, "--help"]).out);
+    assert!(helps.iter().all(|help| help.lines().count() > 3));
     for line in general.lines().chain(helps.iter().flat_map(|h| h.lines())) {
         assert!(line.chars().count() <= 80, "{line}");
     }
@@ -137,59 +138,56 @@ fn help_of_help() {
         .is_bad(2, "info is one word too many; see tapecard --help");
 }
 
+/// Command lines with an option that would do nothing, and what is said of each.
+const IDLE_OPTIONS: [(&str, &str); 12] = [
+    (
+        "packet t.img --record r16 --cold",
+        "--cold is for a drive just switched on, and --record names one that is on already",
+    ),
+    ("pulse --record r32 --vendor 5", SWITCHED_ON),
+    ("pulse --record r32 --rom 5", SWITCHED_ON),
+    (
+        "packet t.img --room 5",
+        "--room goes with a packet on the command line",
+    ),
+    (
+        "packet t.img --room 512 0a",
+        "--room is for a packet that returns bytes; this one takes them from --data",
+    ),
+    (
+        "packet t.img --data t 08",
+        "--data is for WRITE and MODE SELECT; this packet takes no bytes",
+    ),
+    (
+        "packet t.img --room many 08",
+        "--room takes a number from 0 to 67108864, not many",
+    ),
+    ("packet t.img --force", NOTHING_TO_REPLACE),
+    ("packet t.img --force --out -", NOTHING_TO_REPLACE),
+    (
+        "get t.img 1 --force -o -",
+        "--force has nothing to replace with -o -",
+    ),
+    (
+        "get t.img 1 --raw",
+        "--raw looks at no name: say where to write with -o FILE",
+    ),
+    (
+        "get t.img 1 --raw --salvage -o x",
+        "--raw and --salvage do not go together",
+    ),
+];
+const SWITCHED_ON: &str =
+    "--vendor and --rom are for a drive switched on, and --record names one that is on already";
+const NOTHING_TO_REPLACE: &str = "--force has nothing to replace without --out FILE";
+
 /// An option that would do nothing is no option.
 #[test]
 fn options_that_go_with_nothing() {
     let place = Place::with_image(8, &[]);
     place.write("r16", [0, 0, 0, 0, 1, 0, 0, 0, 0, 0, 0, 0, 0, 0, 0, 0]);
     assert_eq!(place.run(&["pulse", "--record", "r32"]).status, 0);
-    let on_already = "is for a drive just switched on, and --record names one that is on already";
-    let switched_on =
-        "--vendor and --rom are for a drive switched on, and --record names one that is on already";
-    for (line, sentence) in [
-        (
-            "packet t.img --record r16 --cold",
-            &*format!("--cold {on_already}"),
-        ),
-        ("pulse --record r32 --vendor 5", switched_on),
-        ("pulse --record r32 --rom 5", switched_on),
-        (
-            "packet t.img --room 5",
-            "--room goes with a packet on the command line",
-        ),
-        (
-            "packet t.img --room 512 0a",
-            "--room is for a packet that returns bytes; this one takes them from --data",
-        ),
-        (
-            "packet t.img --data t 08",
-            "--data is for WRITE and MODE SELECT; this packet takes no bytes",
-        ),
-        (
-            "packet t.img --room many 08",
-            "--room takes a number from 0 to 67108864, not many",
-        ),
-        (
-            "packet t.img --force",
-            "--force has nothing to replace without --out FILE",
-        ),
-        (
-            "packet t.img --force --out -",
-            "--force has nothing to replace without --out FILE",
-        ),
-        (
-            "get t.img 1 --force -o -",
-            "--force has nothing to replace with -o -",
-        ),
-        (
-            "get t.img 1 --raw",
-            "--raw looks at no name: say where to write with -o FILE",
-        ),
-        (
-            "get t.img 1 --raw --salvage -o x",
-            "--raw and --salvage do not go together",
-        ),
-    ] {
+    for (line, sentence) in IDLE_OPTIONS {
         let words: Vec<&str> = line.split(' ').collect();
         let see = format!("{sentence}; see tapecard {} --help", words[0]);
         place.run(&words).is_bad(2, &see);

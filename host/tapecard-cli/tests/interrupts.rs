@@ -185,8 +185,9 @@ fn file_and_folder_are_flushed_to_the_disk() {
     assert!(built.expect("a C compiler").success());
     let said = place.shell("CALLS=calls LD_PRELOAD=./listener.so exec $TAPECARD put t.img f");
     assert_eq!(said.status, 0, "{}", said.err);
-    assert_eq!(
-        String::from_utf8_lossy(&place.read("calls")),
-        "flush file\nrename\nflush folder\n"
-    );
+    let calls = String::from_utf8(place.read("calls")).unwrap();
+    let mut calls: Vec<&str> = calls.lines().collect();
+    // An emulator for this very processor is listened to as well.
+    calls.dedup();
+    assert_eq!(calls, ["flush file", "rename", "flush folder"]);
 }

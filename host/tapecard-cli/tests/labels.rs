@@ -24,6 +24,23 @@ fn patch(place: &Place, at: usize, byte: u8) {
     place.write("t.img", image);
 }
 
+/// Without `--salvage` nothing is written; with it these bytes are, and both say why.
+#[track_caller]
+fn is_salvaged(place: &Place, why: &str, expected: &[u8]) {
+    place
+        .run(&["get", "t.img", "1", "-o", "back"])
+        .is_bad(1, &format!("file 1: {why}, {NOT_WRITTEN}"));
+    assert!(!place.path("back").exists());
+    let said = place.run(&["get", "t.img", "1", "-o", "back", "--salvage"]);
+    let got = format!("got back: {} bytes\n", expected.len());
+    assert_eq!((said.status, said.out), (1, got));
+    assert_eq!(
+        said.err,
+        format!("tapecard: file 1 is damaged: {why}. {WRITTEN}\n")
+    );
+    assert_eq!(place.read("back"), expected);
+}
+
 #[test]
 fn the_label_has_its_layout() {
     let place = Place::with_image(8, &[]);
@@ -102,22 +119,9 @@ fn plain_blocks_without_a_label() {
 fn what_can_be_read_of_a_damaged_file_is_salvaged() {
     let place = place();
     patch(&place, 32 + 2, 99);
-    let why = "the block at place 2 is unreadable";
-    place
-        .run(&["get", "t.img", "1", "-o", "back"])
-        .is_bad(1, &format!("file 1: {why}, {NOT_WRITTEN}"));
-    let said = place.run(&["get", "t.img", "1", "-o", "back", "--salvage"]);
-    assert_eq!(
-        (said.status, said.out.as_str()),
-        (1, "got back: 1500 bytes\n")
-    );
-    assert_eq!(
-        said.err,
-        format!("tapecard: file 1 is damaged: {why}. {WRITTEN}\n")
-    );
     let mut expected = place.read("f");
     expected[512..1024].fill(0);
-    assert_eq!(place.read("back"), expected);
+    is_salvaged(&place, "the block at place 2 is unreadable", &expected);
 }
 
 #[test]
@@ -132,19 +136,7 @@ fn a_file_that_was_cut_short_is_salvaged() {
     let place = place();
     patch(&place, 11, 3);
     let why = "its label tells of 3 blocks and there are 2: it was cut short";
-    place
-        .run(&["get", "t.img", "1", "-o", "back"])
-        .is_bad(1, &format!("file 1: {why}, {NOT_WRITTEN}"));
-    let said = place.run(&["get", "t.img", "1", "-o", "back", "--salvage"]);
-    assert_eq!(
-        (said.status, said.out.as_str()),
-        (1, "got back: 1024 bytes\n")
-    );
-    assert_eq!(
-        said.err,
-        format!("tapecard: file 1 is damaged: {why}. {WRITTEN}\n")
-    );
-    assert_eq!(place.read("back"), place.read("f")[..1024]);
+    is_salvaged(&place, why, &place.read("f")[..1024]);
 }
 
 /// The filemark behind the file was overwritten: more blocks than the label tells of.
@@ -161,10 +153,5 @@ number  name      bytes  blocks  position
     );
     let why =
         "its label tells of 3 blocks and there are 7: more was written behind it (--raw takes all)";
-    place
-        .run(&["get", "t.img", "1", "-o", "back"])
-        .is_bad(1, &format!("file 1: {why}, {NOT_WRITTEN}"));
-    let said = place.run(&["get", "t.img", "1", "-o", "back", "--salvage"]);
-    assert_eq!(said.status, 1);
-    assert_eq!(place.read("back"), place.read("f"));
+    is_salvaged(&place, why, &place.read("f"));
 }

@@ -51,6 +51,31 @@ fn a_file_that_is_there_is_replaced_by_force_alone() {
     assert_eq!(place.read("dear").len(), 36);
 }
 
+/// Targets that cannot be written, and why.
+const UNWRITABLE: [(&str, &str, &str); 5] = [
+    (
+        "--out",
+        "no/o",
+        "could not be written: there is no such file or directory; nothing was changed",
+    ),
+    (
+        "--out",
+        "sub",
+        "could not be written: it is a directory; nothing was changed",
+    ),
+    (
+        "--record",
+        "no/r",
+        "could not be read: there is no such file or directory",
+    ),
+    ("--record", "sub", "could not be read: it is a directory"),
+    (
+        "--record",
+        "r444",
+        "could not be written: its mode 0444 lets nobody write it (chmod u+w would); nothing was changed",
+    ),
+];
+
 #[test]
 fn a_packet_is_not_sent_where_a_file_could_not_be_kept() {
     let place = place();
@@ -58,29 +83,7 @@ fn a_packet_is_not_sent_where_a_file_could_not_be_kept() {
     place.write("r444", [0; 16]);
     set_mode(&place, "r444", 0o444);
     let before = place.read("t.img");
-    for (option, name, why) in [
-        (
-            "--out",
-            "no/o",
-            "could not be written: there is no such file or directory; nothing was changed",
-        ),
-        (
-            "--out",
-            "sub",
-            "could not be written: it is a directory; nothing was changed",
-        ),
-        (
-            "--record",
-            "no/r",
-            "could not be read: there is no such file or directory",
-        ),
-        ("--record", "sub", "could not be read: it is a directory"),
-        (
-            "--record",
-            "r444",
-            "could not be written: its mode 0444 lets nobody write it (chmod u+w would); nothing was changed",
-        ),
-    ] {
+    for (option, name, why) in UNWRITABLE {
         let words = [
             &["packet", "t.img", "--data", "d", option, name][..],
             &WRITE,

@@ -3,6 +3,7 @@
 mod common;
 
 use common::{Dice, Place};
+use tapecard::bytes::opcode;
 
 const READ_2: [&str; 12] = [
     "08", "01", "00", "00", "02", "00", "00", "00", "00", "00", "00", "00",
@@ -238,9 +239,7 @@ fn random_packets_over_damaged_images() {
         place.write("t.img", image);
         place.write("r", dice.bytes(16));
         place.write("d", dice.bytes(1024));
-        let opcodes = [
-            0x00, 0x01, 0x03, 0x08, 0x0A, 0x10, 0x11, 0x12, 0x15, 0x1A, 0x1B, 0x2B, 0x34, 0x99,
-        ];
+        let opcodes = [&opcode::ALL[..], &[0x99]].concat();
         let mut script = String::from("change\n");
         for _ in 0..20 {
             let mut packet = dice.bytes(12);

@@ -104,34 +104,37 @@ fn refused_calls_are_told_and_the_session_goes_on() {
     ]);
 }
 
+/// Lines that no session takes, and what is said of each.
+const BAD_LINES: [(&str, &str); 8] = [
+    ("dance", "\"dance\" is no line of a pulse session"),
+    (
+        "train 70000",
+        "\"70000\" is no train: a train has up to 65535 pulses",
+    ),
+    ("2 x0", "\"0\" is no number of times from 1 to 65535"),
+    (
+        "tick soon",
+        "\"soon\" is no number of times from 1 to 65535",
+    ),
+    ("wait", "say how long to wait at most, as in wait 4095"),
+    (
+        "insert tracks=2",
+        "say at least segments and tracks, as in insert segments=207 tracks=28 place=40 burst",
+    ),
+    (
+        "insert segments=9 tracks=2 colour=red",
+        "\"colour=red\" describes no cartridge",
+    ),
+    (
+        "insert segments=9 tracks=256",
+        "\"tracks=256\" has no number that fits",
+    ),
+];
+
 #[test]
 fn bad_lines_end_a_script_and_what_was_answered_is_kept() {
     let place = Place::new();
-    for (line, sentence) in [
-        ("dance", "\"dance\" is no line of a pulse session"),
-        (
-            "train 70000",
-            "\"70000\" is no train: a train has up to 65535 pulses",
-        ),
-        ("2 x0", "\"0\" is no number of times from 1 to 65535"),
-        (
-            "tick soon",
-            "\"soon\" is no number of times from 1 to 65535",
-        ),
-        ("wait", "say how long to wait at most, as in wait 4095"),
-        (
-            "insert tracks=2",
-            "say at least segments and tracks, as in insert segments=207 tracks=28 place=40 burst",
-        ),
-        (
-            "insert segments=9 tracks=2 colour=red",
-            "\"colour=red\" describes no cartridge",
-        ),
-        (
-            "insert segments=9 tracks=256",
-            "\"tracks=256\" has no number that fits",
-        ),
-    ] {
+    for (line, sentence) in BAD_LINES {
         let said = place.run_with(
             &["pulse", "--record", "r"],
             format!("6\n{line}\n").as_bytes(),

@@ -154,6 +154,7 @@ mod tests {
         assert_eq!(status(0), "GOOD");
         assert_eq!(status(2), "CHECK CONDITION");
         assert_eq!(command(opcode::READ), Some("READ"));
+        assert!(opcode::ALL.iter().all(|opcode| command(*opcode).is_some()));
         assert_eq!(command(0x19), None);
         assert_eq!(pulse_error(26), "power on reset occurred");
     }

@@ -1,12 +1,10 @@
 //! `tapecard info`: an image's header in words and its tape as a strip.
 
 use std::io::Write;
-use std::path::Path;
 
-use super::{Command, NO_OPTIONS};
+use super::{Command, NO_OPTIONS, open_only_image};
 use crate::command_line::args::Args;
 use crate::command_line::failure::Failure;
-use crate::files::image_file;
 use crate::tape::drive::{Drive, Kind};
 use crate::tape::header::Header;
 use crate::tape::strip::{self, Tape};
@@ -31,9 +29,7 @@ pub const COMMAND: Command = Command {
 };
 
 fn run(args: &Args, out: &mut dyn Write) -> Result<(), Failure> {
-    let path = Path::new(args.operand(0, "the image")?);
-    args.at_most(1)?;
-    let mut drive = image_file::load(path)?;
+    let (path, mut drive) = open_only_image(args)?;
     let header = Header::read(drive.image())
         .ok_or_else(|| Failure::work("the image has no header; take another copy"))?;
     let kinds = survey(&mut drive, &header)?;

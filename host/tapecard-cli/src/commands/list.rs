@@ -1,12 +1,10 @@
 //! `tapecard list`: the files of a tape.
 
 use std::io::Write;
-use std::path::Path;
 
-use super::{Command, NO_OPTIONS};
+use super::{Command, NO_OPTIONS, open_only_image};
 use crate::command_line::args::Args;
 use crate::command_line::failure::Failure;
-use crate::files::image_file;
 use crate::tape::catalogue::catalogue;
 use crate::terminal::output;
 use crate::words::{self, names};
@@ -27,9 +25,7 @@ pub const COMMAND: Command = Command {
 };
 
 fn run(args: &Args, out: &mut dyn Write) -> Result<(), Failure> {
-    let path = Path::new(args.operand(0, "the image")?);
-    args.at_most(1)?;
-    let mut drive = image_file::load(path)?;
+    let (path, mut drive) = open_only_image(args)?;
     let files = catalogue(&mut drive)?;
     if files.is_empty() {
         let text = format!("{} holds no files\n", words::shown(path));

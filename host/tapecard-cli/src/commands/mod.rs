@@ -11,9 +11,12 @@ mod recover;
 
 use std::ffi::OsString;
 use std::io::Write;
+use std::path::Path;
 
 use crate::command_line::args::{Args, Options};
 use crate::command_line::failure::Failure;
+use crate::files::image_file;
+use crate::tape::drive::Drive;
 use crate::terminal::output;
 use crate::words;
 
@@ -80,6 +83,13 @@ fn run_command(
     }
     let args = Args::parse(command.name, &command.options, words)?;
     (command.run)(&args, out)
+}
+
+/// The drive of a command whose only operand is an image to look at.
+fn open_only_image(args: &Args) -> Result<(&Path, Drive), Failure> {
+    let path = Path::new(args.operand(0, "the image")?);
+    args.at_most(1)?;
+    Ok((path, image_file::load(path)?))
 }
 
 fn help(words: &[OsString], out: &mut dyn Write) -> Result<(), Failure> {

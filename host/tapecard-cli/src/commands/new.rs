@@ -1,6 +1,5 @@
 //! `tapecard new`: a fresh image.
 
-use std::fs;
 use std::io::Write;
 use std::path::Path;
 
@@ -8,7 +7,7 @@ use super::Command;
 use crate::command_line::args::{Args, Options};
 use crate::command_line::failure::Failure;
 use crate::files::held_file::unwritten;
-use crate::files::output_file;
+use crate::files::{image_file, output_file};
 use crate::tape::drive::Drive;
 use crate::tape::header::{Header, LARGEST_CAPACITY};
 use crate::terminal::output;
@@ -47,7 +46,7 @@ fn run(args: &Args, out: &mut dyn Write) -> Result<(), Failure> {
     args.at_most(1)?;
     let header = header(args)?;
     let drive = Drive::with(header.image())?;
-    ensure_no_device(path)?;
+    image_file::ensure_plain(path)?;
     output_file::take_free(path, args.has("--force"))?
         .save(drive.image())
         .map_err(|e| unwritten(path, &e, "nothing was changed"))?;
@@ -64,16 +63,6 @@ fn run(args: &Args, out: &mut dyn Write) -> Result<(), Failure> {
         }
     );
     output::tell_done(out, &told, "the image is made")
-}
-
-fn ensure_no_device(path: &Path) -> Result<(), Failure> {
-    match fs::metadata(path) {
-        Ok(there) if !there.is_file() => Err(Failure::work(format!(
-            "{} is no plain file and stays as it is; name a file for the image",
-            words::shown(path)
-        ))),
-        _ => Ok(()),
-    }
 }
 
 fn header(args: &Args) -> Result<Header, Failure> {

@@ -50,7 +50,8 @@ pub fn take_unjudged(path: &Path) -> Result<(HeldFile, Vec<u8>, u64), Failure> {
     Ok((held, image, length))
 }
 
-fn ensure_plain(path: &Path) -> Result<(), Failure> {
+/// A device or a directory is no image and becomes none.
+pub fn ensure_plain(path: &Path) -> Result<(), Failure> {
     match fs::metadata(path) {
         Ok(metadata) if !metadata.is_file() => Err(Failure::work(format!(
             "{} is no plain file; name a cartridge image",
