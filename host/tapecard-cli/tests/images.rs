@@ -209,6 +209,18 @@ fn a_huge_file_is_judged_by_its_header() {
         .unwrap()
         .set_len(1 << 40)
         .unwrap();
+    place.run(&["new", "tail.img"]);
+    let tail = std::fs::File::options()
+        .write(true)
+        .open(place.path("tail.img"));
+    tail.unwrap().set_len(1 << 40).unwrap();
+    let said = place.run(&["info", "tail.img"]);
+    assert!(
+        said.err
+            .contains("no image of more than 268435456 is taken"),
+        "{}",
+        said.err
+    );
     let longer = "could not be read: it is longer than 67107840 bytes, more than the largest cartridge holds";
     place
         .run(&["packet", "t.img", "--data", "huge"])

@@ -2,8 +2,6 @@
 
 mod common;
 
-use std::fs;
-use std::process::Command;
 use std::thread;
 use std::time::Duration;
 
@@ -36,7 +34,7 @@ fn what_a_packet_stored_is_kept_before_it_is_answered() {
         if number != 9 {
             assert_eq!(
                 said.err,
-                "tapecard: interrupted; what was answered before is kept in t.img\n"
+                "tapecard: interrupted; what was done before is kept in t.img\n"
             );
         }
         assert_eq!(place.read("t.img")[8..12], [0, 0, 0, 1], "{signal}");
@@ -142,52 +140,4 @@ fn a_file_with_the_number_of_this_process_is_in_nobodys_way() {
     assert_eq!((said.status, said.err.as_str()), (0, ""));
     let left = parts(&place);
     assert_eq!(place.read(&left[0]), b"dear\n");
-}
-
-/// What tells of fsync and rename, in the order of the calls.
-const LISTENER: &str = r#"
-#define _GNU_SOURCE
-#include <dlfcn.h>
-#include <stdio.h>
-#include <stdlib.h>
-#include <sys/stat.h>
-
-static void tell(const char *what) {
-    FILE *log = fopen(getenv("CALLS"), "a");
-    fprintf(log, "%s\n", what);
-    fclose(log);
-}
-
-int fsync(int fd) {
-    struct stat about;
-    fstat(fd, &about);
-    tell(S_ISDIR(about.st_mode) ? "flush folder" : "flush file");
-    return ((int (*)(int))dlsym(RTLD_NEXT, "fsync"))(fd);
-}
-
-int rename(const char *from, const char *to) {
-    tell("rename");
-    return ((int (*)(const char *, const char *))dlsym(RTLD_NEXT, "rename"))(from, to);
-}
-"#;
-
-#[test]
-fn file_and_folder_are_flushed_to_the_disk() {
-    let place = Place::with_image(8, &[]);
-    place.write("f", "glyphs");
-    fs::write(place.path("listener.c"), LISTENER).unwrap();
-    let compiler = std::env::var("TAPECARD_CC").unwrap_or("gcc".into());
-    let built = Command::new(compiler)
-        .args(["-shared", "-fPIC", "-o"])
-        .args([place.path("listener.so"), place.path("listener.c")])
-        .arg("-ldl")
-        .status();
-    assert!(built.expect("a C compiler").success());
-    let said = place.shell("CALLS=calls LD_PRELOAD=./listener.so exec $TAPECARD put t.img f");
-    assert_eq!(said.status, 0, "{}", said.err);
-    let calls = String::from_utf8(place.read("calls")).unwrap();
-    let mut calls: Vec<&str> = calls.lines().collect();
-    // An emulator for this very processor is listened to as well.
-    calls.dedup();
-    assert_eq!(calls, ["flush file", "rename", "flush folder"]);
 }

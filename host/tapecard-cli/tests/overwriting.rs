@@ -52,7 +52,8 @@ fn a_file_that_is_there_is_replaced_by_force_alone() {
 }
 
 /// Targets that cannot be written, and why.
-const UNWRITABLE: [(&str, &str, &str); 5] = [
+const UNWRITABLE: [(&str, &str, &str); 6] = [
+    ("--record", "pipe", "could not be read: it is no plain file"),
     (
         "--out",
         "no/o",
@@ -80,6 +81,7 @@ const UNWRITABLE: [(&str, &str, &str); 5] = [
 fn a_packet_is_not_sent_where_a_file_could_not_be_kept() {
     let place = place();
     fs::create_dir(place.path("sub")).unwrap();
+    assert_eq!(place.shell("mkfifo pipe").status, 0);
     place.write("r444", [0; 16]);
     set_mode(&place, "r444", 0o444);
     let before = place.read("t.img");
@@ -98,7 +100,7 @@ fn a_packet_is_not_sent_where_a_file_could_not_be_kept() {
         );
         assert_eq!(place.read("t.img"), before);
     }
-    assert_eq!(place.names(), ["d", "f", "r444", "sub", "t.img"]);
+    assert_eq!(place.names(), ["d", "f", "pipe", "r444", "sub", "t.img"]);
 }
 
 /// A device cannot be tried beforehand; what is kept all the same is said.

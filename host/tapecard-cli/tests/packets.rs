@@ -223,6 +223,18 @@ fn missing_data_sends_nothing() {
         );
 }
 
+#[test]
+fn what_is_no_script_does_not_fill_the_memory() {
+    let place = plate();
+    place
+        .run_with(&["packet", "t.img"], &[b'a'; 2 * 1024 * 1024])
+        .is_bad(
+            1,
+            "a line of standard input is longer than 1048576 bytes: that is no script; what the lines before it did is \
+             kept",
+        );
+}
+
 /// Damaged images and random packets: an answer or a refusal, never a crash.
 #[test]
 fn random_packets_over_damaged_images() {

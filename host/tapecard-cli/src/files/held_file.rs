@@ -82,22 +82,28 @@ impl HeldFile {
 
     /// Nothing that can be known beforehand keeps [`HeldFile::save`] from replacing it.
     pub fn ensure_replaceable(&self) -> io::Result<()> {
-        if let Some(there) = &self.there {
-            judge(&there.file.metadata()?)?;
+        if self.is_there() {
             OpenOptions::new().write(true).open(&self.real)?;
         }
-        Part::beside(&self.real, self.is_there()).map(drop)
+        self.begin_part().map(drop)
+    }
+
+    /// An empty part that has what the file's replacement must keep.
+    fn begin_part(&self) -> io::Result<Part> {
+        let Some(there) = &self.there else {
+            return Part::beside(&self.real, false);
+        };
+        let old = there.file.metadata()?;
+        judge(&old)?;
+        let part = Part::beside(&self.real, true)?;
+        part.take_after(&old)?;
+        Ok(part)
     }
 
     /// Gives the file this content, or leaves it as it was.
     pub fn save(&mut self, content: &[u8]) -> io::Result<()> {
         self.ensure_unchanged()?;
-        let mut part = Part::beside(&self.real, self.is_there())?;
-        if let Some(there) = &self.there {
-            let old = there.file.metadata()?;
-            judge(&old)?;
-            part.take_after(&old)?;
-        }
+        let mut part = self.begin_part()?;
         part.fill(content)?;
         self.ensure_unchanged()?;
         let file = match self.there {
@@ -108,8 +114,8 @@ impl HeldFile {
         Ok(())
     }
 
-    /// A file that is not the one that was read is not replaced.
-    fn ensure_unchanged(&self) -> io::Result<()> {
+    /// The file is still the one that was read: no other is replaced.
+    pub fn ensure_unchanged(&self) -> io::Result<()> {
         let Some(there) = &self.there else {
             return Ok(());
         };
@@ -135,8 +141,16 @@ impl There {
     }
 }
 
-/// Open for writing where that is allowed: some file systems lock only such a file.
+/// Open for writing where that is allowed: some file systems lock only such a file. A pipe would be waited for, a device might
+/// begin to move.
 fn open(real: &Path) -> io::Result<File> {
+    let metadata = fs::metadata(real)?;
+    if metadata.is_dir() {
+        return Err(ErrorKind::IsADirectory.into());
+    }
+    if !metadata.is_file() {
+        return Err(io::Error::other("it is no plain file"));
+    }
     let both = OpenOptions::new().read(true).write(true).open(real);
     both.or_else(|_| File::open(real))
 }
@@ -212,11 +226,13 @@ pub enum Purpose {
 
 impl Purpose {
     pub fn failed(self, path: &Path, error: &io::Error) -> Failure {
+        let missing = error.kind() == ErrorKind::NotFound;
         let (path, error) = (words::shown(path), words::io_error(error));
         Failure::work(match self {
-            Purpose::Image => {
+            Purpose::Image if missing => {
                 format!("the image {path} could not be read: {error}; tapecard new makes one")
             }
+            Purpose::Image => format!("the image {path} could not be read: {error}"),
             Purpose::Record => format!("the record {path} could not be read: {error}"),
             Purpose::Output => format!("{path} could not be written: {error}; nothing was changed"),
         })

@@ -16,6 +16,9 @@ use crate::words;
 /// The refusal of an image that breaks a header rule.
 const BROKEN_HEADER: Refusal = Refusal { number: 2 };
 
+/// The longest file that is read: the largest tape, and room for gaps and a tail.
+const LONGEST_FILE: u64 = 256 * 1024 * 1024;
+
 /// A drive with the image of this file in it, to be read. Nothing is locked: a file is replaced at once, never in part.
 pub fn load(path: &Path) -> Result<Drive, Failure> {
     ensure_plain(path)?;
@@ -24,10 +27,7 @@ pub fn load(path: &Path) -> Result<Drive, Failure> {
     let before = Identity::of(&file.metadata().map_err(fail)?);
     let image = read(&mut file, before.length()).map_err(fail)?;
     if Identity::of(&file.metadata().map_err(fail)?) != before {
-        return Err(Failure::work(format!(
-            "{} was changed by another program while it was read; try again when that has ended",
-            words::shown(path)
-        )));
+        return Err(changed(path));
     }
     drive_with(path, image, before.length())
 }
@@ -47,6 +47,7 @@ pub fn take_unjudged(path: &Path) -> Result<(HeldFile, Vec<u8>, u64), Failure> {
         return Err(fail(io::ErrorKind::NotFound.into()));
     };
     let image = read(file, length).map_err(fail)?;
+    held.ensure_unchanged().map_err(|_| changed(path))?;
     Ok((held, image, length))
 }
 
@@ -61,13 +62,26 @@ pub fn ensure_plain(path: &Path) -> Result<(), Failure> {
     }
 }
 
-/// The header is judged first, so that a large file that is no image is not read into memory.
+fn changed(path: &Path) -> Failure {
+    Failure::work(format!(
+        "{} was changed by another program while it was read; try again when that has ended",
+        words::shown(path)
+    ))
+}
+
+/// The header is judged first, so that a large file that is no image is not read into memory, nor is one with an absurd tail.
 fn read(file: &mut File, length: u64) -> io::Result<Vec<u8>> {
     let mut image = Vec::new();
     file.take(header::LENGTH as u64).read_to_end(&mut image)?;
-    if Header::read(&image).is_some_and(|header| header.allows(length)) {
-        file.read_to_end(&mut image)?;
+    if !Header::read(&image).is_some_and(|header| header.allows(length)) {
+        return Ok(image);
     }
+    if length > LONGEST_FILE {
+        return Err(io::Error::other(format!(
+            "it has {length} bytes, and no image of more than {LONGEST_FILE} is taken (the largest tape needs a quarter)"
+        )));
+    }
+    file.read_to_end(&mut image)?;
     Ok(image)
 }
 

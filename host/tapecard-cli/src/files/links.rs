@@ -30,7 +30,8 @@ fn in_real_folder(path: &Path) -> io::Result<PathBuf> {
     Ok(fs::canonicalize(folder_of(path))?.join(name))
 }
 
-fn folder_of(path: &Path) -> &Path {
+/// The folder that a name stands in.
+pub fn folder_of(path: &Path) -> &Path {
     match path.parent() {
         Some(folder) if !folder.as_os_str().is_empty() => folder,
         _ => Path::new("."),

@@ -10,9 +10,12 @@ use std::os::unix::ffi::OsStrExt;
 use std::os::unix::fs::{MetadataExt, OpenOptionsExt, fchown};
 use std::path::{Path, PathBuf};
 
+use crate::command_line::failure::complain;
 use crate::files::identity::Identity;
+use crate::files::links;
 use crate::system::flock;
 use crate::terminal::interrupt::unfinished;
+use crate::words;
 
 /// Another run may make and remove its part between two steps of ours, but hardly so often.
 const TRIES: usize = 100;
@@ -50,6 +53,11 @@ impl Part {
             .open(path);
         let file = match opened {
             Err(e) if e.kind() == ErrorKind::AlreadyExists => return Ok(None),
+            Err(e) if e.kind() == ErrorKind::PermissionDenied => {
+                return Err(io::Error::other(
+                    "its folder lets us make no file beside it",
+                ));
+            }
             opened => opened?,
         };
         if !flock::try_lock(&file)? || !is_at(&file, path)? {
@@ -106,7 +114,7 @@ impl Part {
         unfinished.part = None;
         unfinished.is_kept(told);
         drop(unfinished);
-        flush_folder(target)?;
+        flush_folder(target, told);
         Ok(file)
     }
 }
@@ -175,15 +183,14 @@ fn busy() -> io::Error {
     io::Error::other("another run of tapecard is writing it just now (try again)")
 }
 
-/// A name is safe when its folder is.
-fn flush_folder(target: &Path) -> io::Result<()> {
-    let folder = match target.parent() {
-        Some(folder) if !folder.as_os_str().is_empty() => folder,
-        _ => Path::new("."),
-    };
-    File::open(folder)?.sync_all().map_err(|e| {
-        io::Error::other(format!(
-            "it has its new content, but its folder could not be flushed to the disk: {e}"
-        ))
-    })
+/// A name is safe when its folder is. The file has its content all the same, so this is told and no failure.
+fn flush_folder(target: &Path, told: &Path) {
+    let flushed = File::open(links::folder_of(target)).and_then(|folder| folder.sync_all());
+    if let Err(e) = flushed {
+        complain(&format!(
+            "{} has its new content, but its folder could not be flushed to the disk ({e}): a power cut now could bring \
+             the old content back",
+            words::shown(told)
+        ));
+    }
 }

@@ -1,6 +1,7 @@
 //! A run that is interrupted leaves no unfinished file behind, and says what it kept.
 
 use std::fs;
+use std::io::{self, IsTerminal, Write};
 use std::path::{Path, PathBuf};
 use std::process;
 use std::sync::{Mutex, MutexGuard, PoisonError};
@@ -40,7 +41,7 @@ impl Unfinished {
         match self.kept.as_slice() {
             [] => "interrupted; nothing was changed".into(),
             kept => format!(
-                "interrupted; what was answered before is kept in {}",
+                "interrupted; what was done before is kept in {}",
                 kept.join(", ")
             ),
         }
@@ -57,6 +58,10 @@ pub fn watch() {
         let unfinished = unfinished();
         if let Some(part) = &unfinished.part {
             let _ = fs::remove_file(part);
+        }
+        if io::stderr().is_terminal() {
+            // The line has the terminal's own mark of the interrupt.
+            let _ = writeln!(io::stderr());
         }
         complain(&unfinished.told());
         signals.end_by(number);

@@ -8,6 +8,9 @@ use crate::terminal::output;
 /// Lines that are there already are answered together; a longer script in parts of this many bytes.
 const AT_ONCE: usize = 64 * 1024;
 
+/// Longer than any line of a script; what is no script would else fill the memory.
+const LONGEST_LINE: u64 = 1024 * 1024;
+
 /// What a line asks of the session.
 #[derive(Clone, Copy, PartialEq, Eq)]
 pub enum Flow {
@@ -92,8 +95,12 @@ fn bad_line(number: u64, failure: Failure) -> Failure {
 
 fn next_line(input: &mut impl BufRead) -> Result<Option<String>, Failure> {
     let mut bytes = Vec::new();
-    match input.read_until(b'\n', &mut bytes) {
+    match input.take(LONGEST_LINE).read_until(b'\n', &mut bytes) {
         Ok(0) => Ok(None),
+        Ok(length) if length as u64 == LONGEST_LINE => Err(Failure::work(format!(
+            "a line of standard input is longer than {LONGEST_LINE} bytes: that is no script; what the lines before it did \
+             is kept"
+        ))),
         Ok(_) => Ok(Some(String::from_utf8_lossy(&bytes).into_owned())),
         Err(e) => Err(Failure::work(format!(
             "standard input could not be read: {e}"
