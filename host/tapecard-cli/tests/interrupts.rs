@@ -79,6 +79,18 @@ fn nohup_is_honoured() {
     said.has_lines(&["ended 0"]);
 }
 
+/// Standard error is a pipe that is full: the sentence cannot be said, and the run ends all the same.
+#[test]
+fn a_signal_ends_a_run_whose_words_nobody_reads() {
+    let place = Place::with_image(8, &[]);
+    let mut session = place.start(&["packet", "t.img", "--out", "-"]);
+    session.send(&b"12 00 00 00 24 00 00 00 00 00 00 00\n".repeat(1000));
+    session.hear("TYPEHAUS");
+    let ended = session.ends_unread_by("TERM");
+    session.end();
+    assert!(ended);
+}
+
 /// Puts onto the largest cartridge, which takes a while, and ends that by a signal while the new image is being written.
 fn ended_while_writing(place: &Place, signal: &str) -> Said {
     for _ in 0..20 {

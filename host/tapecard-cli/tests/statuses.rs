@@ -75,13 +75,16 @@ fn work_that_is_done_stays_done_where_nobody_is_told() {
 #[test]
 fn what_was_asked_for_and_cannot_be_shown_is_a_failure() {
     let place = place();
-    for line in ["list t.img", "info t.img", "--help", "packet t.img <f1"] {
-        place.write("f1", READY);
-        place.shell(&format!("$TAPECARD {line} >/dev/full")).is_bad(
-            1,
-            "standard output took no more: No space left on device (os error 28)",
-        );
+    let full = "standard output took no more: No space left on device (os error 28)";
+    for line in ["list t.img", "info t.img", "--help"] {
+        place
+            .shell(&format!("$TAPECARD {line} >/dev/full"))
+            .is_bad(1, full);
     }
+    place.write("script", READY);
+    place
+        .shell("$TAPECARD packet t.img <script >/dev/full")
+        .is_bad(1, &format!("{full}; what was sent so far is kept"));
 }
 
 #[test]

@@ -66,6 +66,31 @@ fn packets_at_once_are_all_kept() {
 }
 
 #[test]
+fn one_of_several_makes_a_file() {
+    let place = Place::new();
+    let running: Vec<Running> = (0..8)
+        .map(|n| {
+            place.start(&[
+                "new",
+                "n.img",
+                "--blocks",
+                "20000",
+                "--medium",
+                &n.to_string(),
+            ])
+        })
+        .collect();
+    let said: Vec<_> = running.into_iter().map(Running::end).collect();
+    let made = said.iter().filter(|said| said.status == 0).count();
+    assert_eq!(made, 1, "one made it, and it stays as that one made it");
+    let refused = said.iter().filter(|said| said.status == 1);
+    let kept =
+        |err: &str| err.contains("there already") || err.contains("made a file of this name");
+    assert!(refused.map(|said| &said.err).all(|err| kept(err)));
+    assert_eq!(place.names(), ["n.img"]);
+}
+
+#[test]
 fn an_image_in_use_is_waited_for() {
     let place = place();
     let mut session = session(&place);

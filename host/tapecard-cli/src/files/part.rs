@@ -9,6 +9,8 @@ use std::io::{self, ErrorKind, Write};
 use std::os::unix::ffi::OsStrExt;
 use std::os::unix::fs::{MetadataExt, OpenOptionsExt, fchown};
 use std::path::{Path, PathBuf};
+use std::thread;
+use std::time::Duration;
 
 use crate::command_line::failure::complain;
 use crate::files::identity::Identity;
@@ -17,8 +19,9 @@ use crate::system::flock;
 use crate::terminal::interrupt::unfinished;
 use crate::words;
 
-/// Another run may make and remove its part between two steps of ours, but hardly so often.
+/// How often a name is tried that another run has, and how long it is given each time.
 const TRIES: usize = 100;
+const A_MOMENT: Duration = Duration::from_millis(10);
 const PRIVATE: u32 = 0o600;
 const USUAL: u32 = 0o666;
 
@@ -37,9 +40,13 @@ impl Part {
             if let Some(part) = Part::begin(&path, mode)? {
                 return Ok(part);
             }
-            remove_left_behind(&path)?;
+            if !remove_left_behind(&path)? {
+                thread::sleep(A_MOMENT);
+            }
         }
-        Err(busy())
+        Err(io::Error::other(
+            "another run of tapecard is writing it just now (try again)",
+        ))
     }
 
     /// `None` where a file of this name is there, or was taken for one left behind before its lock was ours.
@@ -60,7 +67,8 @@ impl Part {
             }
             opened => opened?,
         };
-        if !flock::try_lock(&file)? || !is_at(&file, path)? {
+        let locked = flock::try_lock(&file).inspect_err(|_| drop(fs::remove_file(path)))?;
+        if !locked || !is_at(&file, path)? {
             return Ok(None);
         }
         unfinished.part = Some(path.to_owned());
@@ -155,19 +163,18 @@ fn hash(name: &OsStr) -> u64 {
     name.as_bytes().iter().fold(0xcbf2_9ce4_8422_2325, step)
 }
 
-fn remove_left_behind(path: &Path) -> io::Result<()> {
+/// False where its writer is alive.
+fn remove_left_behind(path: &Path) -> io::Result<bool> {
     let found = OpenOptions::new().read(true).write(true).open(path);
     let file = match found {
-        Err(e) if e.kind() == ErrorKind::NotFound => return Ok(()),
+        Err(e) if e.kind() == ErrorKind::NotFound => return Ok(true),
         found => found?,
     };
-    if !flock::try_lock(&file)? {
-        return Err(busy());
+    let left_behind = flock::try_lock(&file)?;
+    if left_behind && is_at(&file, path)? {
+        fs::remove_file(path)?;
     }
-    match is_at(&file, path)? {
-        true => fs::remove_file(path),
-        false => Ok(()),
-    }
+    Ok(left_behind)
 }
 
 /// The path still leads to this very file.
@@ -177,10 +184,6 @@ fn is_at(file: &File, path: &Path) -> io::Result<bool> {
         Err(e) if e.kind() == ErrorKind::NotFound => Ok(false),
         Err(e) => Err(e),
     }
-}
-
-fn busy() -> io::Error {
-    io::Error::other("another run of tapecard is writing it just now (try again)")
 }
 
 /// A name is safe when its folder is. The file has its content all the same, so this is told and no failure.

@@ -4,12 +4,15 @@ use std::fs;
 use std::io::{self, IsTerminal, Write};
 use std::path::{Path, PathBuf};
 use std::process;
-use std::sync::{Mutex, MutexGuard, PoisonError};
+use std::sync::{Mutex, MutexGuard, PoisonError, mpsc};
 use std::thread;
+use std::time::Duration;
 
 use crate::command_line::failure::complain;
 use crate::system::signals::{HANGUP, INTERRUPT, Signals, TERMINATE};
 use crate::words;
+
+const A_MOMENT: Duration = Duration::from_millis(500);
 
 /// What an interrupt has to know. Whoever changes a file's name holds this, so that an interrupt comes before or after it.
 #[derive(Default)]
@@ -59,12 +62,22 @@ pub fn watch() {
         if let Some(part) = &unfinished.part {
             let _ = fs::remove_file(part);
         }
+        say_in_a_moment(unfinished.told());
+        signals.end_by(number);
+        process::exit(1);
+    });
+}
+
+/// Nobody may be reading standard error: that must not keep the run from ending.
+fn say_in_a_moment(sentence: String) {
+    let (said, done) = mpsc::channel();
+    thread::spawn(move || {
         if io::stderr().is_terminal() {
             // The line has the terminal's own mark of the interrupt.
             let _ = writeln!(io::stderr());
         }
-        complain(&unfinished.told());
-        signals.end_by(number);
-        process::exit(1);
+        complain(&sentence);
+        let _ = said.send(());
     });
+    let _ = done.recv_timeout(A_MOMENT);
 }

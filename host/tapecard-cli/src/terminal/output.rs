@@ -23,7 +23,11 @@ pub fn tell_done(out: &mut dyn Write, text: &str, done: &str) -> Result<(), Fail
 
 /// Tells what a drive answered, once what it changed is kept.
 pub fn tell_answers(out: &mut dyn Write, text: &mut Vec<u8>) -> Result<(), Failure> {
-    out.write_all(text).and_then(|()| out.flush())?;
+    let told = out.write_all(text).and_then(|()| out.flush());
     text.clear();
-    Ok(())
+    told.map_err(|e| {
+        Failure::work(format!(
+            "standard output took no more: {e}; what was sent so far is kept"
+        ))
+    })
 }

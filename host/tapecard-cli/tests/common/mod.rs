@@ -9,6 +9,8 @@ use std::os::unix::process::ExitStatusExt;
 use std::path::PathBuf;
 use std::process::{self, Child, Command, Stdio};
 use std::sync::atomic::{AtomicU32, Ordering};
+use std::thread;
+use std::time::Duration;
 
 /// A directory that goes away with the test.
 pub struct Place {
@@ -147,6 +149,15 @@ impl Running {
         let said = self.end();
         drop(input);
         said
+    }
+
+    /// Sends a signal, reads nothing, and waits some seconds for the end that it should bring.
+    pub fn ends_unread_by(&mut self, signal: &str) -> bool {
+        self.signal(signal);
+        (0..500).any(|_| {
+            thread::sleep(Duration::from_millis(10));
+            self.child.try_wait().expect("a child").is_some()
+        })
     }
 
     /// Closes its output, as `head` does when it has seen enough.
