@@ -286,16 +286,22 @@ fn good_packet(random: &mut Random, place: &Place) -> [u8; 12] {
     } else {
         opcode(random)
     };
+    put_fields(&mut packet, random, place);
+    packet
+}
+
+/// The fields of the packet's own command.
+fn put_fields(packet: &mut [u8; 12], random: &mut Random, place: &Place) {
     match packet[0] {
         READ | WRITE => {
             packet[1] = packet[1] & 0xFE | u8::from(!random.percent(4));
-            put_count(&mut packet, count(random, place));
+            put_count(packet, count(random, place));
         }
-        WRITE_FILEMARK => put_count(&mut packet, count(random, place)),
+        WRITE_FILEMARK => put_count(packet, count(random, place)),
         SPACE => {
             let code = random.pick(&[0, 0, 0, 0, 1, 1, 1, 1, 3, 2, 4, 5, 6, 7]);
             packet[1] = packet[1] & 0xF8 | code;
-            put_count(&mut packet, signed_count(random, place));
+            put_count(packet, signed_count(random, place));
         }
         MODE_SELECT => packet[4] = random.pick(&[0, 12, 32, 32, 32, 32, 11, 13, 31, 33, 255]),
         MODE_SENSE => {
@@ -313,13 +319,12 @@ fn good_packet(random: &mut Random, place: &Place) -> [u8; 12] {
                 2 => random.pick(&[u32::MAX, 0x8000_0000, 0x1_0000, 0x100_0000]),
                 _ => random.below(u64::from(past)) as u32,
             };
-            put_long(&mut packet, 3, target);
+            put_long(packet, 3, target);
         }
         REQUEST_SENSE => packet[4] = allocation(random, length::SENSE as u8),
         INQUIRY => packet[4] = allocation(random, length::INQUIRY as u8),
         _ => (),
     }
-    packet
 }
 
 /// An allocation length: around the whole, 0, or any.

@@ -61,50 +61,53 @@ fn an_unknown_command() {
     );
 }
 
+/// Command lines with a wrong word, and what is said of each.
+const WRONG_WORDS: [(&[&str], &str); 12] = [
+    (
+        &["info", "--fast", "t"],
+        "there is no option --fast; see tapecard info --help",
+    ),
+    (&["info"], "the image is missing; see tapecard info --help"),
+    (
+        &["info", "a", "b"],
+        "b is one word too many; see tapecard info --help",
+    ),
+    (
+        &["new"],
+        "the name of the image is missing; see tapecard new --help",
+    ),
+    (&["put"], "the image is missing; see tapecard put --help"),
+    (
+        &["put", "t"],
+        "the file to put is missing; see tapecard put --help",
+    ),
+    (
+        &["get", "t"],
+        "the number of the file is missing; see tapecard get --help",
+    ),
+    (
+        &["get", "t", "1", "-o"],
+        "-o needs a value; see tapecard get --help",
+    ),
+    (&["list"], "the image is missing; see tapecard list --help"),
+    (
+        &["packet"],
+        "the image is missing; see tapecard packet --help",
+    ),
+    (
+        &["pulse", "6"],
+        "6 is one word too many; see tapecard pulse --help",
+    ),
+    (
+        &["recover", "now"],
+        "now is one word too many; see tapecard recover --help",
+    ),
+];
+
 #[test]
 fn unknown_options_and_words_too_many_or_missing() {
     let place = Place::new();
-    for (words, sentence) in [
-        (
-            &["info", "--fast", "t"][..],
-            "there is no option --fast; see tapecard info --help",
-        ),
-        (&["info"], "the image is missing; see tapecard info --help"),
-        (
-            &["info", "a", "b"],
-            "b is one word too many; see tapecard info --help",
-        ),
-        (
-            &["new"],
-            "the name of the image is missing; see tapecard new --help",
-        ),
-        (&["put"], "the image is missing; see tapecard put --help"),
-        (
-            &["put", "t"],
-            "the file to put is missing; see tapecard put --help",
-        ),
-        (
-            &["get", "t"],
-            "the number of the file is missing; see tapecard get --help",
-        ),
-        (
-            &["get", "t", "1", "-o"],
-            "-o needs a value; see tapecard get --help",
-        ),
-        (&["list"], "the image is missing; see tapecard list --help"),
-        (
-            &["packet"],
-            "the image is missing; see tapecard packet --help",
-        ),
-        (
-            &["pulse", "6"],
-            "6 is one word too many; see tapecard pulse --help",
-        ),
-        (
-            &["recover", "now"],
-            "now is one word too many; see tapecard recover --help",
-        ),
-    ] {
+    for (words, sentence) in WRONG_WORDS {
         place.run(words).is_bad(2, sentence);
     }
 }

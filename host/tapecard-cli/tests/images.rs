@@ -180,12 +180,21 @@ fn a_file_of_one_byte_is_no_image() {
     );
 }
 
-/// Its header says at once that it is no image: a tebibyte is not read into memory.
+/// A file of a tebibyte, most of it a hole.
+fn make_huge(place: &Place, name: &str) {
+    let file = std::fs::File::options()
+        .create(true)
+        .write(true)
+        .truncate(false)
+        .open(place.path(name));
+    file.unwrap().set_len(1 << 40).unwrap();
+}
+
+/// Its header says at once that it is no image, so it is not read into memory.
 #[test]
 fn a_huge_file_is_judged_by_its_header() {
     let place = Place::new();
-    let file = std::fs::File::create(place.path("huge")).unwrap();
-    file.set_len(1 << 40).unwrap();
+    make_huge(&place, "huge");
     for words in [
         &["info", "huge"][..],
         &["list", "huge"],
@@ -193,34 +202,23 @@ fn a_huge_file_is_judged_by_its_header() {
     ] {
         let said = place.run(words);
         assert_eq!(said.status, 1);
-        assert!(
-            said.err.contains("The file has 1099511627776 bytes"),
-            "{}",
-            said.err
-        );
+        let told = "The file has 1099511627776 bytes";
+        assert!(said.err.contains(told), "{}", said.err);
     }
-    let said = place.run_with(
-        &["packet", "huge"],
-        b"00 00 00 00 00 00 00 00 00 00 00 00\n",
-    );
+    let packet = [&["packet", "huge"][..], &["00"; 12]].concat();
+    let said = place.run(&packet);
     said.has_lines(&["  refused   2: image breaks a header rule"]);
+}
+
+#[test]
+fn what_is_read_is_bounded() {
     let place = Place::with_image(4, &[]);
-    std::fs::File::create(place.path("huge"))
-        .unwrap()
-        .set_len(1 << 40)
-        .unwrap();
     place.run(&["new", "tail.img"]);
-    let tail = std::fs::File::options()
-        .write(true)
-        .open(place.path("tail.img"));
-    tail.unwrap().set_len(1 << 40).unwrap();
+    make_huge(&place, "tail.img");
     let said = place.run(&["info", "tail.img"]);
-    assert!(
-        said.err
-            .contains("no image of more than 268435456 is taken"),
-        "{}",
-        said.err
-    );
+    let bound = "no image of more than 268435456 is taken";
+    assert!(said.err.contains(bound), "{}", said.err);
+    make_huge(&place, "huge");
     let longer = "could not be read: it is longer than 67107840 bytes, more than the largest cartridge holds";
     place
         .run(&["packet", "t.img", "--data", "huge"])

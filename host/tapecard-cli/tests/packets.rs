@@ -235,6 +235,22 @@ fn what_is_no_script_does_not_fill_the_memory() {
         );
 }
 
+/// Packets of all commands, most of them with a count that a tape may have.
+fn random_script(dice: &mut Dice) -> String {
+    let opcodes = [&opcode::ALL[..], &[0x99]].concat();
+    let mut script = String::from("change\n");
+    for _ in 0..20 {
+        let mut packet = dice.bytes(12);
+        packet[0] = opcodes[dice.throw(opcodes.len() as u64) as usize];
+        packet[2..4].fill(0);
+        for byte in packet {
+            script.push_str(&format!("{byte:02x} "));
+        }
+        script.push('\n');
+    }
+    script
+}
+
 /// Damaged images and random packets: an answer or a refusal, never a crash.
 #[test]
 fn random_packets_over_damaged_images() {
@@ -251,17 +267,7 @@ fn random_packets_over_damaged_images() {
         place.write("t.img", image);
         place.write("r", dice.bytes(16));
         place.write("d", dice.bytes(1024));
-        let opcodes = [&opcode::ALL[..], &[0x99]].concat();
-        let mut script = String::from("change\n");
-        for _ in 0..20 {
-            let mut packet = dice.bytes(12);
-            packet[0] = opcodes[dice.throw(opcodes.len() as u64) as usize];
-            packet[2..4].fill(0);
-            for byte in packet {
-                script.push_str(&format!("{byte:02x} "));
-            }
-            script.push('\n');
-        }
+        let script = random_script(&mut dice);
         let said = place.run_with(
             &[
                 "packet", "t.img", "--record", "r", "--data", "d", "--out", "o", "--force",

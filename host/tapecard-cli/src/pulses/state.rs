@@ -55,47 +55,38 @@ pub fn whole(record: &Record) -> Vec<String> {
 
 /// What a call changed, a line each.
 pub fn changes(before: &Record, after: &Record) -> Vec<String> {
-    let mut lines = Vec::new();
-    let mut say = |changed: bool, words: String| {
-        if changed {
-            lines.push(words);
-        }
-    };
-    let pair = |record: &Record| (record.error(), record.error_command());
-    say(
-        pair(before) != pair(after) && after.error() != 0,
-        format!("now held: {}", error(after)),
-    );
-    say(
-        before.error() != 0 && after.error() == 0,
-        "the error is cleared".into(),
-    );
-    say(
-        before.new_mark() && !after.new_mark() && after.cartridge_in(),
-        "the new-cartridge mark is cleared".into(),
-    );
-    let motion = |record: &Record| (record.motion(), record.target());
-    say(
-        motion(before) != motion(after) || before.place() != after.place(),
-        place(after),
-    );
-    say(
-        before.track() != after.track(),
-        format!("track {}", after.track()),
-    );
-    say(
-        before.rate() != after.rate(),
-        format!(
-            "rate {}, {}",
-            after.rate(),
-            words::pulses::rate(after.rate())
-        ),
-    );
+    let mut lines = error_changes(before, after);
+    let motion = |record: &Record| (record.motion(), record.target(), record.place());
+    if motion(before) != motion(after) {
+        lines.push(place(after));
+    }
+    if before.track() != after.track() {
+        lines.push(format!("track {}", after.track()));
+    }
+    if before.rate() != after.rate() {
+        let words = words::pulses::rate(after.rate());
+        lines.push(format!("rate {}, {words}", after.rate()));
+    }
     let arguments = |record: &Record| (record.waiting_code(), record.arguments_held());
-    say(
-        arguments(before) != arguments(after) && after.waiting_code() != 0,
-        waiting(after),
-    );
+    if arguments(before) != arguments(after) && after.waiting_code() != 0 {
+        lines.push(waiting(after));
+    }
+    lines
+}
+
+/// What changed of the error and of the new-cartridge mark.
+fn error_changes(before: &Record, after: &Record) -> Vec<String> {
+    let mut lines = Vec::new();
+    let pair = |record: &Record| (record.error(), record.error_command());
+    if pair(before) != pair(after) && after.error() != 0 {
+        lines.push(format!("now held: {}", error(after)));
+    }
+    if before.error() != 0 && after.error() == 0 {
+        lines.push("the error is cleared".into());
+    }
+    if before.new_mark() && !after.new_mark() && after.cartridge_in() {
+        lines.push("the new-cartridge mark is cleared".into());
+    }
     lines
 }
 

@@ -72,10 +72,12 @@ impl<'a> Appending<'a> {
         let size = self.drive.block_size();
         let total = source.bytes.len() as u64;
         let mut progress = Progress::new(format!("writing {}", source.name), total);
-        if let Some(label) = &source.label {
-            if !self.write(&packets::write(1), &mut label.block(size))? {
-                return Ok(false);
-            }
+        let labelled = match &source.label {
+            Some(label) => self.write(&packets::write(1), &mut label.block(size))?,
+            None => true,
+        };
+        if !labelled {
+            return Ok(false);
         }
         for part in source.bytes.chunks(CHUNK as usize * size) {
             let blocks = part.len().div_ceil(size);
