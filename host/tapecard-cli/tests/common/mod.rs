@@ -217,10 +217,13 @@ impl Said {
 
 /// The command, under the emulator that the environment names where the archive is for another processor. `TAPECARD` may name
 /// another build of it.
+///
+/// Whoever runs the tests may have set signals to be ignored, as a background job has; the command would honour that.
 fn tapecard() -> Command {
-    let words = command_words();
-    let mut command = Command::new(&words[0]);
-    command.args(&words[1..]);
+    let mut command = Command::new("env");
+    command
+        .arg("--default-signal=INT,TERM,HUP")
+        .args(command_words());
     command
 }
 
