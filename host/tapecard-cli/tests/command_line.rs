@@ -142,7 +142,7 @@ fn help_of_help() {
 }
 
 /// Command lines with an option that would do nothing, and what is said of each.
-const IDLE_OPTIONS: [(&str, &str); 12] = [
+const IDLE_OPTIONS: [(&str, &str); 11] = [
     (
         "packet t.img --record r16 --cold",
         "--cold is for a drive just switched on, and --record names one that is on already",
@@ -174,10 +174,6 @@ const IDLE_OPTIONS: [(&str, &str); 12] = [
     (
         "get t.img 1 --raw",
         "--raw looks at no name: say where to write with -o FILE",
-    ),
-    (
-        "get t.img 1 --raw --salvage -o x",
-        "--raw and --salvage do not go together",
     ),
 ];
 const SWITCHED_ON: &str =

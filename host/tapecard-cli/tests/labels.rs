@@ -125,6 +125,21 @@ fn what_can_be_read_of_a_damaged_file_is_salvaged() {
 }
 
 #[test]
+fn plain_blocks_are_salvaged_too() {
+    let place = place();
+    patch(&place, 32, 99);
+    let said = place.run(&["get", "t.img", "1", "--raw", "--salvage", "-o", "back"]);
+    assert_eq!(
+        (said.status, said.out.as_str()),
+        (1, "got back: 2048 bytes\n")
+    );
+    let start = "tapecard: file 1 is damaged: the block at place 0 is unreadable. ";
+    assert!(said.err.starts_with(start), "{}", said.err);
+    let expected = [vec![0; 512], place.read("f"), vec![0; 36]].concat();
+    assert_eq!(place.read("back"), expected);
+}
+
+#[test]
 fn a_whole_file_is_salvaged_with_status_0() {
     place()
         .run(&["get", "t.img", "1", "-o", "back", "--salvage"])

@@ -22,7 +22,7 @@ use crate::terminal::progress::Progress;
 use crate::words;
 
 const HELP: &str = "\
-usage: tapecard get IMAGE NUMBER [-o FILE] [--force] [--raw | --salvage]
+usage: tapecard get IMAGE NUMBER [-o FILE] [--force] [--raw] [--salvage]
 
 Writes the file with this number (from 1, as tapecard list shows) under its own
 name in this directory, if it is whole and its checksum is right.
@@ -65,9 +65,7 @@ fn run(args: &Args, out: &mut dyn Write) -> Result<(), Failure> {
 
 fn judge_options(args: &Args) -> Result<(), Failure> {
     let to_standard = args.path("-o").is_some_and(is_standard);
-    if args.has("--raw") && args.has("--salvage") {
-        Err(args.wrong("--raw and --salvage do not go together".into()))
-    } else if args.has("--raw") && args.path("-o").is_none() {
+    if args.has("--raw") && args.path("-o").is_none() {
         Err(args.wrong("--raw looks at no name: say where to write with -o FILE".into()))
     } else if args.has("--force") && to_standard {
         Err(args.wrong("--force has nothing to replace with -o -".into()))
