@@ -131,6 +131,20 @@ fn what_is_kept_is_said_where_a_target_still_fails() {
     assert_eq!(place.read("r")[..4], [0, 0, 0, 4]);
 }
 
+/// As on a disk that fills up while the new image is being written.
+#[test]
+fn a_file_that_outgrows_its_limit_changes_nothing() {
+    let place = place();
+    let before = place.read("t.img");
+    let said = place.shell("ulimit -f 4; exec $TAPECARD put t.img d");
+    said.is_bad(
+        1,
+        "t.img could not be written: File too large (os error 27); nothing was changed",
+    );
+    assert_eq!(place.read("t.img"), before);
+    assert_eq!(place.names(), ["d", "f", "t.img"]);
+}
+
 /// The bits count for root too.
 #[test]
 fn an_image_that_nobody_may_write_is_not_replaced() {

@@ -94,15 +94,12 @@ fn one_of_several_makes_a_file() {
 fn an_image_in_use_is_waited_for() {
     let place = place();
     let mut session = session(&place);
-    let put = place.start(&["put", "t.img", "d"]);
-    thread::sleep(Duration::from_millis(300));
+    let mut put = place.start(&["put", "t.img", "d"]);
+    put.hear_error(WAITING);
     session.send(WRITE);
     assert_eq!(session.end().status, 0);
-    let said = put.end();
-    assert_eq!((said.status, said.err.as_str()), (0, WAITING));
-    assert_eq!(
-        said.out,
-        "closed file 1, which had no filemark\nput d as file 2: 512 bytes in 2 blocks at place 2\n"
+    put.end().is_good(
+        "closed file 1, which had no filemark\nput d as file 2: 512 bytes in 2 blocks at place 2\n",
     );
 }
 
@@ -171,14 +168,12 @@ fn a_record_in_use_is_waited_for() {
     first.hear("by no command");
     let mut second = place.start(&words);
     second.send(b"insert segments=9 tracks=2\n");
-    thread::sleep(Duration::from_millis(200));
+    second.hear_error(
+        "tapecard: r is in use by another run of tapecard; waiting up to 5 seconds for it\n",
+    );
     first.send(b"ask 7\n");
     assert_eq!(first.end().status, 0);
     let said = second.end();
-    assert_eq!(said.status, 0, "{}", said.err);
-    assert_eq!(
-        said.err,
-        "tapecard: r is in use by another run of tapecard; waiting up to 5 seconds for it\n"
-    );
+    assert_eq!((said.status, said.err.as_str()), (0, ""));
     said.has_lines(&["drive    no cartridge; no error"]);
 }

@@ -6,6 +6,8 @@ use std::ptr;
 pub const HANGUP: c_int = 1;
 pub const INTERRUPT: c_int = 2;
 pub const TERMINATE: c_int = 15;
+/// A file grew beyond the limit that is set for this run.
+pub const FILE_TOO_LARGE: c_int = 25;
 
 const BLOCK: c_int = 0;
 const UNBLOCK: c_int = 1;
@@ -13,6 +15,7 @@ const DEFAULT: usize = 0;
 const IGNORED: usize = 1;
 
 /// A set of signals, as large as the C library has it.
+#[derive(Clone, Copy)]
 #[repr(C, align(8))]
 pub struct Signals([u8; 128]);
 
@@ -51,6 +54,12 @@ impl Signals {
         unsafe { pthread_sigmask(BLOCK, self, ptr::null_mut()) };
     }
 
+    /// Lets them through again, those that came meanwhile first.
+    pub fn let_through(&self) {
+        // SAFETY: the set is only read, and a null pointer asks for no old set.
+        unsafe { pthread_sigmask(UNBLOCK, self, ptr::null_mut()) };
+    }
+
     /// The next of them that comes.
     pub fn wait(&self) -> c_int {
         let mut number = 0;
@@ -61,10 +70,14 @@ impl Signals {
 
     /// Ends the process by this signal, as it would have ended without us.
     pub fn end_by(&self, number: c_int) {
-        // SAFETY: the set is only read; a signal with its default ends the process.
-        unsafe {
-            pthread_sigmask(UNBLOCK, self, ptr::null_mut());
-            raise(number);
-        }
+        self.let_through();
+        // SAFETY: the call touches no memory; a signal with its default ends the process.
+        unsafe { raise(number) };
     }
+}
+
+/// Has the call that would bring this signal fail with an error instead.
+pub fn ignore(number: c_int) {
+    // SAFETY: to be ignored is a handler that signal(2) defines.
+    unsafe { signal(number, IGNORED) };
 }

@@ -1,5 +1,6 @@
 //! A run that is interrupted leaves no unfinished file behind, and says what it kept.
 
+use std::ffi::c_int;
 use std::fs;
 use std::io::{self, IsTerminal, Write};
 use std::path::{Path, PathBuf};
@@ -9,7 +10,7 @@ use std::thread;
 use std::time::Duration;
 
 use crate::command_line::failure::complain;
-use crate::system::signals::{HANGUP, INTERRUPT, Signals, TERMINATE};
+use crate::system::signals::{self, FILE_TOO_LARGE, HANGUP, INTERRUPT, Signals, TERMINATE};
 use crate::words;
 
 const A_MOMENT: Duration = Duration::from_millis(500);
@@ -53,25 +54,31 @@ impl Unfinished {
 
 /// Watches for the signals that end a run: from a terminal, a kill, or a line that hung up.
 pub fn watch() {
+    signals::ignore(FILE_TOO_LARGE);
     let signals = Signals::not_ignored(&[HANGUP, INTERRUPT, TERMINATE]);
     signals.hold_back();
-    thread::spawn(move || {
-        let number = signals.wait();
-        // Never let go: the run must not rename its part now.
-        let unfinished = unfinished();
-        if let Some(part) = &unfinished.part {
-            let _ = fs::remove_file(part);
-        }
-        say_in_a_moment(unfinished.told());
-        signals.end_by(number);
-        process::exit(1);
-    });
+    let watching = thread::Builder::new().spawn(move || end_by(signals.wait(), &signals));
+    if watching.is_err() {
+        // No thread is to be had: a signal ends the run as it would any other.
+        signals.let_through();
+    }
+}
+
+fn end_by(number: c_int, signals: &Signals) {
+    // Never let go: the run must not rename its part now.
+    let unfinished = unfinished();
+    if let Some(part) = &unfinished.part {
+        let _ = fs::remove_file(part);
+    }
+    say_in_a_moment(unfinished.told());
+    signals.end_by(number);
+    process::exit(1);
 }
 
 /// Nobody may be reading standard error: that must not keep the run from ending.
 fn say_in_a_moment(sentence: String) {
     let (said, done) = mpsc::channel();
-    thread::spawn(move || {
+    let saying = thread::Builder::new().spawn(move || {
         if io::stderr().is_terminal() {
             // The line has the terminal's own mark of the interrupt.
             let _ = writeln!(io::stderr());
@@ -79,5 +86,7 @@ fn say_in_a_moment(sentence: String) {
         complain(&sentence);
         let _ = said.send(());
     });
-    let _ = done.recv_timeout(A_MOMENT);
+    if saying.is_ok() {
+        let _ = done.recv_timeout(A_MOMENT);
+    }
 }

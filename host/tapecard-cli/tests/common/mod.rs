@@ -122,17 +122,13 @@ impl Running {
     }
 
     /// Reads its output until this text has come.
-    pub fn hear(&mut self, text: &str) -> String {
-        let out = self.child.stdout.as_mut().expect("its output");
-        let mut heard = Vec::new();
-        let mut byte = [0];
-        while !String::from_utf8_lossy(&heard).ends_with(text) {
-            let read = out.read(&mut byte).expect("its output is read");
-            let so_far = String::from_utf8_lossy(&heard).into_owned();
-            assert_eq!(read, 1, "it ended before {text:?}: {so_far}");
-            heard.push(byte[0]);
-        }
-        String::from_utf8_lossy(&heard).into_owned()
+    pub fn hear(&mut self, text: &str) {
+        read_until(self.child.stdout.as_mut().expect("its output"), text);
+    }
+
+    /// Reads its standard error until this text has come.
+    pub fn hear_error(&mut self, text: &str) {
+        read_until(self.child.stderr.as_mut().expect("its errors"), text);
     }
 
     /// Sends a signal by its name.
@@ -237,6 +233,17 @@ fn command_words() -> Vec<String> {
         _ => other,
     });
     words
+}
+
+fn read_until(from: &mut impl Read, text: &str) {
+    let mut heard = Vec::new();
+    let mut byte = [0];
+    while !heard.ends_with(text.as_bytes()) {
+        let read = from.read(&mut byte).expect("it can be read");
+        let so_far = String::from_utf8_lossy(&heard);
+        assert_eq!(read, 1, "it ended before {text:?}: {so_far}");
+        heard.push(byte[0]);
+    }
 }
 
 /// Bytes that look random and are the same in every run.
