@@ -72,11 +72,16 @@ fn an_interrupt_that_changed_nothing_says_so() {
 /// A signal that whoever started the run has set to be ignored stays ignored.
 #[test]
 fn nohup_is_honoured() {
+    let ready = b"00 00 00 00 00 00 00 00 00 00 00 00\n";
     let place = Place::with_image(8, &[]);
-    let said = place.shell(
-        "trap '' HUP; (sleep 0.3; kill -s HUP $$; sleep 0.3; echo quit) | $TAPECARD packet t.img; echo ended $?",
-    );
-    said.has_lines(&["ended 0"]);
+    let mut session = place.start_shell("trap '' HUP; exec $TAPECARD packet t.img");
+    session.send(ready);
+    session.hear("NO SENSE");
+    session.signal("HUP");
+    session.send(ready);
+    session.hear("NO SENSE");
+    let said = session.end();
+    assert_eq!((said.status, said.err.as_str()), (0, ""));
 }
 
 /// Standard error is a pipe that is full: the sentence cannot be said, and the run ends all the same.

@@ -86,11 +86,15 @@ impl Place {
 
     /// Runs a line of the shell in which `$TAPECARD` is the command.
     pub fn shell(&self, line: &str) -> Said {
+        self.start_shell(line).end()
+    }
+
+    pub fn start_shell(&self, line: &str) -> Running {
         let mut shell = Command::new("sh");
         shell
             .args(["-c", line])
             .env("TAPECARD", command_words().join(" "));
-        self.start_command(shell).end()
+        self.start_command(shell)
     }
 
     fn start_command(&self, mut command: Command) -> Running {
@@ -132,7 +136,7 @@ impl Running {
     }
 
     /// Sends a signal by its name.
-    fn signal(&self, name: &str) {
+    pub fn signal(&self, name: &str) {
         let number = self.child.id().to_string();
         let sent = Command::new("kill").args(["-s", name, &number]).status();
         assert!(sent.expect("kill runs").success());
