@@ -78,6 +78,7 @@ fn nohup_is_honoured() {
     session.send(ready);
     session.hear("NO SENSE");
     session.signal("HUP");
+    thread::sleep(Duration::from_millis(300));
     session.send(ready);
     session.hear("NO SENSE");
     let said = session.end();
