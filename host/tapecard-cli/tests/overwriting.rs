@@ -136,7 +136,12 @@ fn what_is_kept_is_said_where_a_target_still_fails() {
 fn a_file_that_outgrows_its_limit_changes_nothing() {
     let place = place();
     let before = place.read("t.img");
-    let said = place.shell("ulimit -f 4; exec $TAPECARD put t.img d");
+    // An emulator would be ended by the signal itself.
+    let emulated = std::env::var("TAPECARD_RUN").is_ok_and(|word| !word.is_empty());
+    let ignored = if emulated { "trap '' XFSZ;" } else { "" };
+    let said = place.shell(&format!(
+        "{ignored} ulimit -f 4; exec $TAPECARD put t.img d"
+    ));
     said.is_bad(
         1,
         "t.img could not be written: File too large (os error 27); nothing was changed",
