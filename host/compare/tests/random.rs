@@ -8,7 +8,7 @@ use compare::{calls_wanted, packet_sessions, pulse_sessions, say, seed_wanted};
 use model::Bug;
 use model::packet::{Ending, OPCODES};
 use model::pulse::{Branch, ERRORS};
-use tapecard::bytes::{opcode, page, triple};
+use tapecard::bytes::{opcode, page, train, triple};
 
 /// Calls for each drive where the environment names no other number.
 const USUAL_CALLS: u64 = 600_000;
@@ -243,9 +243,9 @@ fn wanted_branches() -> Vec<Branch> {
         WaitedToLimit,
         WaitedReady,
     ];
-    wanted.extend([25, 26, 34, 35].map(SkipStarted));
-    wanted.extend([6, 7, 8, 9, 32, 33].map(Report));
-    wanted.extend([3, 10, 11, 12, 13, 14, 18, 25, 26, 27, 34, 35].map(Obeyed));
+    wanted.extend(train::SKIPS.map(|pulses| SkipStarted(pulses as u8)));
+    wanted.extend(train::REPORTS.map(|pulses| Report(pulses as u8)));
+    wanted.extend(train::COMMANDS.map(|pulses| Obeyed(pulses as u8)));
     wanted.extend([3, 18, 25, 26, 34, 35].map(ObeyedAfterStop));
     wanted
 }

@@ -110,4 +110,29 @@ pub mod train {
     pub const TAPE_STATUS: u16 = 33;
     pub const SKIP_FAR_REVERSE: u16 = 34;
     pub const SKIP_FAR_FORWARD: u16 = 35;
+
+    /// Those that are answered bit by bit.
+    pub const REPORTS: [u16; 6] = [STATUS, ERROR, CONFIGURATION, ROM, VENDOR, TAPE_STATUS];
+    /// Those that go so many segments on or back.
+    pub const SKIPS: [u16; 4] = [
+        SKIP_REVERSE,
+        SKIP_FORWARD,
+        SKIP_FAR_REVERSE,
+        SKIP_FAR_FORWARD,
+    ];
+    /// Those that the drive obeys or rejects.
+    pub const COMMANDS: [u16; 12] = [
+        PAUSE,
+        FORWARD,
+        PHYSICAL_REVERSE,
+        PHYSICAL_FORWARD,
+        SEEK_TRACK,
+        SEEK_LOAD_POINT,
+        STOP,
+        SKIP_REVERSE,
+        SKIP_FORWARD,
+        SELECT_RATE,
+        SKIP_FAR_REVERSE,
+        SKIP_FAR_FORWARD,
+    ];
 }

@@ -71,17 +71,23 @@ mod tests {
     #[test]
     fn packets_in_words() {
         assert_eq!(
-            packet(&[8, 1, 0, 0, 2, 0, 0, 0, 0, 0, 0, 0]),
+            packet(&[opcode::READ, 1, 0, 0, 2, 0, 0, 0, 0, 0, 0, 0]),
             "READ 2 blocks"
         );
         assert_eq!(
-            packet(&[0x11, 1, 0xFF, 0xFF, 0xFF, 0]),
+            packet(&[opcode::SPACE, 1, 0xFF, 0xFF, 0xFF, 0]),
             "SPACE back 1 filemark"
         );
-        assert_eq!(packet(&[0x2B, 0, 0, 0, 0, 1, 2, 0]), "LOCATE place 258");
-        assert_eq!(packet(&[0x1B, 0, 0, 0, 0]), "LOAD/UNLOAD (unload)");
-        assert_eq!(packet(&[0x2B, 0, 0]), "LOCATE");
-        assert_eq!(packet(&[8]), "READ");
+        assert_eq!(
+            packet(&[opcode::LOCATE, 0, 0, 0, 0, 1, 2, 0]),
+            "LOCATE place 258"
+        );
+        assert_eq!(
+            packet(&[opcode::LOAD_UNLOAD, 0, 0, 0, 0]),
+            "LOAD/UNLOAD (unload)"
+        );
+        assert_eq!(packet(&[opcode::LOCATE, 0, 0]), "LOCATE");
+        assert_eq!(packet(&[opcode::READ]), "READ");
         assert_eq!(packet(&[0x99]), "unknown command 99h");
         assert_eq!(packet(&[]), "no bytes");
     }
