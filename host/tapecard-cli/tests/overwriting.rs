@@ -131,6 +131,19 @@ fn what_is_kept_is_said_where_a_target_still_fails() {
     assert_eq!(place.read("r")[..4], [0, 0, 0, 4]);
 }
 
+/// What stands where the new content would be written is named, not removed: it may be anything.
+#[test]
+fn what_is_in_the_way_is_named() {
+    let place = place();
+    let part = ".tapecard-d0ad3a7140982bd6.part";
+    fs::create_dir(place.path(part)).unwrap();
+    place.run(&["put", "t.img", "f"]).is_bad(
+        1,
+        &format!("t.img could not be written: {part} is in the way (it is a directory; remove it); nothing was changed"),
+    );
+    assert!(stat(&place, part).is_dir());
+}
+
 /// As on a disk that fills up while the new image is being written.
 #[test]
 fn a_file_that_outgrows_its_limit_changes_nothing() {

@@ -168,13 +168,21 @@ fn remove_left_behind(path: &Path) -> io::Result<bool> {
     let found = OpenOptions::new().read(true).write(true).open(path);
     let file = match found {
         Err(e) if e.kind() == ErrorKind::NotFound => return Ok(true),
-        found => found?,
+        found => found.map_err(|e| in_the_way(path, &e))?,
     };
     let left_behind = flock::try_lock(&file)?;
     if left_behind && is_at(&file, path)? {
         fs::remove_file(path)?;
     }
     Ok(left_behind)
+}
+
+fn in_the_way(path: &Path, error: &io::Error) -> io::Error {
+    io::Error::other(format!(
+        "{} is in the way ({}; remove it)",
+        words::shown(path.file_name().unwrap_or_default()),
+        words::io_error(error)
+    ))
 }
 
 /// The path still leads to this very file.
