@@ -5,8 +5,9 @@
 SHELL := /bin/bash
 HOST_ENV := . scripts/host-env.sh
 
-# how many calls `make fuzz` compares
+# how many calls `make fuzz` compares, and from which seed (a number, or 0x..; the fixed one where it is empty)
 N ?= 10000000
+SEED ?=
 
 demo: target/staticlib/libtapecard.a
 	$(HOST_ENV) && (cd host && cargo build --release --offline --quiet) && scripts/demo.sh
@@ -18,7 +19,9 @@ bench: target/staticlib/libtapecard.a
 	$(HOST_ENV) && cd host && cargo run --release --offline --quiet -p bench
 
 fuzz: target/staticlib/libtapecard.a
-	$(HOST_ENV) && cd host && TAPECARD_CALLS=$(N) cargo test --release --offline -p compare --test random -- --nocapture
+	@[ "$(N)" != 0 ] || { echo "fuzz: N=0 would compare nothing; say how many calls, as in make fuzz N=1000000" >&2; exit 2; }
+	@echo "fuzz: $(N) calls a drive, seed $(or $(SEED),the fixed one)"
+	$(HOST_ENV) && cd host && TAPECARD_CALLS=$(N) TAPECARD_SEED=$(SEED) cargo test --release --offline -p compare --test random -- --nocapture
 
 target/staticlib/libtapecard.a: crates.txt $(shell find crates -path '*/must-fail' -prune -o -type f -print)
 	rt check tapecard # two crates at a time; staticlib alone proves them one by one

@@ -3,6 +3,7 @@
 use std::hint::black_box;
 use std::time::Instant;
 
+use tapecard::bytes::train;
 use tapecard::pulse::{Cartridge, Record};
 
 const ROUNDS: usize = 5;
@@ -18,8 +19,6 @@ const CARTRIDGE: Cartridge = Cartridge {
     format: 2,
     kind: 2,
 };
-const FORWARD: u16 = 10;
-const REVERSE: u16 = 11;
 
 pub fn measure() {
     println!("pulse drive, a second, best of {ROUNDS} rounds");
@@ -33,10 +32,14 @@ fn best(measure: fn() -> f64) -> f64 {
 
 /// Status, error and configuration asked again and again: 38 trains an exchange.
 fn trains_a_second() -> f64 {
-    let exchange: Vec<u16> = [(6, 9), (7, 17), (8, 9)]
-        .into_iter()
-        .flat_map(|(report, twos)| [vec![report], vec![2; twos]].concat())
-        .collect();
+    let exchange: Vec<u16> = [
+        (train::STATUS, 9),
+        (train::ERROR, 17),
+        (train::CONFIGURATION, 9),
+    ]
+    .into_iter()
+    .flat_map(|(report, twos)| [vec![report], vec![train::NEXT_BIT; twos]].concat())
+    .collect();
     let mut drive = ready_drive();
     let begun = Instant::now();
     for _ in 0..EXCHANGES {
@@ -50,11 +53,13 @@ fn trains_a_second() -> f64 {
 /// The tape runs from one end to the other and back.
 fn ticks_a_second() -> f64 {
     let mut drive = ready_drive();
-    let mut turns = [FORWARD, REVERSE].into_iter().cycle();
+    let mut turns = [train::FORWARD, train::PHYSICAL_REVERSE]
+        .into_iter()
+        .cycle();
     let begun = Instant::now();
     for _ in 0..TICKS {
         if drive.ready() {
-            let turn = turns.next().unwrap_or(FORWARD);
+            let turn = turns.next().unwrap_or(train::FORWARD);
             drive
                 .train(turn)
                 .expect("a drive in order takes every train");

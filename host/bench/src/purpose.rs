@@ -1,20 +1,11 @@
 //! A READ written by hand in Rust: the same bytes in and out and the same checks in the same order as the interface has for this
 //! packet, and a copy block by block. It answers READ alone; every other packet is an unknown command here.
 
-const DATA: u8 = 1;
-const FILEMARK: u8 = 2;
-const SPEEDS: [u16; 5] = [0, 62, 125, 250, 500];
-const READ: u8 = 0x08;
-const CHECK_CONDITION: u8 = 2;
+use tapecard::bytes::triple::{self, Triple};
+use tapecard::bytes::{kind, opcode};
+use tapecard::packet::CHECK_CONDITION;
 
-const FILEMARK_DETECTED: [u8; 3] = [0x0, 0x00, 0x01];
-const UNREADABLE: [u8; 3] = [0x3, 0x11, 0x00];
-const END_OF_DATA: [u8; 3] = [0x8, 0x00, 0x05];
-const UNKNOWN_COMMAND: [u8; 3] = [0x5, 0x20, 0x00];
-const INVALID_FIELD: [u8; 3] = [0x5, 0x24, 0x00];
-const NOT_LOADED: [u8; 3] = [0x2, 0x3A, 0x00];
-const MEDIUM_CHANGED: [u8; 3] = [0x6, 0x28, 0x00];
-const RESET: [u8; 3] = [0x6, 0x29, 0x00];
+const SPEEDS: [u16; 5] = [0, 62, 125, 250, 500];
 
 struct Header {
     block_size: usize,
@@ -68,18 +59,18 @@ pub fn packet(
 }
 
 /// Attention, opcode, fields, not ready.
-fn before_the_work(record: &[u8; 16], packet: &[u8]) -> Option<[u8; 3]> {
+fn before_the_work(record: &[u8; 16], packet: &[u8]) -> Option<Triple> {
     match record[5] {
-        1 => return Some(MEDIUM_CHANGED),
-        2 => return Some(RESET),
+        1 => return Some(triple::MEDIUM_CHANGED),
+        2 => return Some(triple::RESET),
         _ => {}
     }
-    if packet[0] != READ {
-        Some(UNKNOWN_COMMAND)
+    if packet[0] != opcode::READ {
+        Some(triple::UNKNOWN_COMMAND)
     } else if packet[1] & 1 == 0 {
-        Some(INVALID_FIELD)
+        Some(triple::BAD_FIELD)
     } else if record[4] & 1 == 0 {
-        Some(NOT_LOADED)
+        Some(triple::NOT_LOADED)
     } else {
         None
     }
@@ -89,7 +80,7 @@ fn before_the_work(record: &[u8; 16], packet: &[u8]) -> Option<[u8; 3]> {
 struct Run {
     position: usize,
     copied: usize,
-    stop: Option<[u8; 3]>,
+    stop: Option<Triple>,
 }
 
 /// Copies up to `count` blocks from this position on.
@@ -102,18 +93,18 @@ fn copy_blocks(image: &[u8], header: &Header, from: usize, count: usize, data: &
     };
     while run.copied < count && run.stop.is_none() {
         if run.position == header.recorded {
-            run.stop = Some(END_OF_DATA);
+            run.stop = Some(triple::END_OF_DATA);
             break;
         }
         let block = header.blocks_at + run.position * size;
         match image[header.kinds_at + run.position] {
-            DATA => {
+            kind::DATA => {
                 let room = &mut data[run.copied * size..(run.copied + 1) * size];
                 room.copy_from_slice(&image[block..block + size]);
                 run.copied += 1;
             }
-            FILEMARK => run.stop = Some(FILEMARK_DETECTED),
-            _ => run.stop = Some(UNREADABLE),
+            kind::FILEMARK => run.stop = Some(triple::FILEMARK),
+            _ => run.stop = Some(triple::UNREADABLE),
         }
         run.position += 1;
     }
@@ -124,13 +115,13 @@ fn finish(record: &mut [u8; 16], run: &Run, count: usize) {
     record[0..4].copy_from_slice(&(run.position as u32).to_be_bytes());
     match run.stop {
         Some(sense) => end(record, sense, true, count - run.copied),
-        None => end(record, [0; 3], false, 0),
+        None => end(record, triple::NOTHING, false, 0),
     }
 }
 
-fn end(record: &mut [u8; 16], sense: [u8; 3], valid: bool, residue: usize) {
+fn end(record: &mut [u8; 16], sense: Triple, valid: bool, residue: usize) {
     record[8..11].copy_from_slice(&sense);
-    record[11] = u8::from(valid) | u8::from(sense == FILEMARK_DETECTED) << 2;
+    record[11] = u8::from(valid) | u8::from(sense == triple::FILEMARK) << 2;
     record[12..16].copy_from_slice(&(residue as u32).to_be_bytes());
 }
 

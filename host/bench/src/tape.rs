@@ -1,11 +1,13 @@
 //! The cartridge and the packet that are measured.
 
+use tapecard::bytes::{kind, opcode};
+
 pub const BLOCK_SIZE: usize = 1024;
 pub const BLOCKS: usize = 64;
 pub const ROOM: usize = BLOCK_SIZE * BLOCKS;
 
 /// READ of 64 blocks in fixed blocks.
-pub const READ: [u8; 12] = [0x08, 1, 0, 0, BLOCKS as u8, 0, 0, 0, 0, 0, 0, 0];
+pub const READ: [u8; 12] = [opcode::READ, 1, 0, 0, BLOCKS as u8, 0, 0, 0, 0, 0, 0, 0];
 
 const HEADER: usize = 32;
 
@@ -20,7 +22,7 @@ pub fn image() -> Vec<u8> {
     image[8..12].copy_from_slice(&(BLOCKS as u32).to_be_bytes());
     image[12..16].copy_from_slice(&(kinds_at as u32).to_be_bytes());
     image[16..20].copy_from_slice(&(blocks_at as u32).to_be_bytes());
-    image[kinds_at..blocks_at].fill(1);
+    image[kinds_at..blocks_at].fill(kind::DATA);
     for (place, byte) in image[blocks_at..].iter_mut().enumerate() {
         *byte = (place * 7 + place / BLOCK_SIZE) as u8;
     }

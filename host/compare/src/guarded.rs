@@ -67,7 +67,10 @@ mod tests {
         for beyond in [-1, 3] {
             let mut guarded = Guarded::new(&[1, 2, 3]);
             assert!(guarded.guards_hold());
-            let at = guarded.start.strict_add_signed(beyond);
+            let at = guarded
+                .start
+                .checked_add_signed(beyond)
+                .expect("a place in the pages");
             guarded.whole[at] = 0;
             assert!(!guarded.guards_hold());
         }

@@ -5,11 +5,10 @@ use std::panic::{AssertUnwindSafe, catch_unwind};
 
 use model::Bug;
 use model::packet::Ending;
+use tapecard::bytes::opcode;
 use tapecard::raw;
 
 use crate::{Difference, Guarded, Origin};
-
-const READ: u8 = 0x08;
 
 /// What an answer holds before a call, to see that the whole of it is written.
 const UNWRITTEN: [u8; 16] = [0x5A; 16];
@@ -170,7 +169,7 @@ impl PacketBench {
         if self.packet.bytes() != packet || !self.packet.guards_hold() {
             return Err(self.difference("the packet's own bytes", "packet", data));
         }
-        let stored = self.engine.answer.bytes()[4..8] != [0; 4] && packet[0] != READ;
+        let stored = self.engine.answer.bytes()[4..8] != [0; 4] && packet[0] != opcode::READ;
         if stored {
             self.keep_image();
         }
@@ -268,9 +267,9 @@ fn variant_of(packet: &[u8]) -> u8 {
         return 0;
     }
     match packet[0] {
-        0x11 => packet[1] % 8 + 8 * (packet[2] / 128),
-        0x15 => packet[4],
-        0x1A => packet[2] % 64,
+        opcode::SPACE => packet[1] % 8 + 8 * (packet[2] / 128),
+        opcode::MODE_SELECT => packet[4],
+        opcode::MODE_SENSE => packet[2] % 64,
         _ => 0,
     }
 }

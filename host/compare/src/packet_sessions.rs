@@ -1,27 +1,20 @@
 //! Sessions of packets: images, records, packets and buffers, good ones mostly, and damage.
 
-use crate::{Difference, PacketBench, Random};
+use tapecard::bytes::opcode::*;
+use tapecard::bytes::{length, page};
 
-const READ: u8 = 0x08;
-const WRITE: u8 = 0x0A;
-const WRITE_FILEMARK: u8 = 0x10;
-const SPACE: u8 = 0x11;
-const MODE_SELECT: u8 = 0x15;
-const MODE_SENSE: u8 = 0x1A;
-const LOAD_UNLOAD: u8 = 0x1B;
-const LOCATE: u8 = 0x2B;
-const READ_POSITION: u8 = 0x34;
+use crate::{Difference, PacketBench, Random};
 
 /// Opcodes with the weight that each has among good packets.
 const WEIGHTS: [(u8, u64); 13] = [
-    (0x00, 2),
-    (0x01, 3),
-    (0x03, 6),
+    (TEST_UNIT_READY, 2),
+    (REWIND, 3),
+    (REQUEST_SENSE, 6),
     (READ, 18),
     (WRITE, 16),
     (WRITE_FILEMARK, 8),
     (SPACE, 18),
-    (0x12, 4),
+    (INQUIRY, 4),
     (MODE_SELECT, 8),
     (MODE_SENSE, 6),
     (LOAD_UNLOAD, 4),
@@ -293,21 +286,28 @@ fn good_packet(random: &mut Random, place: &Place) -> [u8; 12] {
     } else {
         opcode(random)
     };
+    put_fields(&mut packet, random, place);
+    packet
+}
+
+/// The fields of the packet's own command.
+fn put_fields(packet: &mut [u8; 12], random: &mut Random, place: &Place) {
     match packet[0] {
         READ | WRITE => {
             packet[1] = packet[1] & 0xFE | u8::from(!random.percent(4));
-            put_count(&mut packet, count(random, place));
+            put_count(packet, count(random, place));
         }
-        WRITE_FILEMARK => put_count(&mut packet, count(random, place)),
+        WRITE_FILEMARK => put_count(packet, count(random, place)),
         SPACE => {
             let code = random.pick(&[0, 0, 0, 0, 1, 1, 1, 1, 3, 2, 4, 5, 6, 7]);
             packet[1] = packet[1] & 0xF8 | code;
-            put_count(&mut packet, signed_count(random, place));
+            put_count(packet, signed_count(random, place));
         }
         MODE_SELECT => packet[4] = random.pick(&[0, 12, 32, 32, 32, 32, 11, 13, 31, 33, 255]),
         MODE_SENSE => {
-            packet[2] = packet[2] & 0xC0 | random.pick(&[0, 0, 0x2A, 0x2A, 0x2A, 0x2B, 0x3F]);
-            packet[4] = allocation(random, 32);
+            packet[2] = packet[2] & 0xC0
+                | random.pick(&[0, 0, page::CODE, page::CODE, page::CODE, 0x2B, 0x3F]);
+            packet[4] = allocation(random, length::MODE_WITH_PAGE as u8);
         }
         LOAD_UNLOAD => packet[4] = packet[4] & 0xF8 | random.pick(&[1, 1, 1, 3, 0, 2, 4, 5, 6, 7]),
         LOCATE => {
@@ -319,13 +319,12 @@ fn good_packet(random: &mut Random, place: &Place) -> [u8; 12] {
                 2 => random.pick(&[u32::MAX, 0x8000_0000, 0x1_0000, 0x100_0000]),
                 _ => random.below(u64::from(past)) as u32,
             };
-            put_long(&mut packet, 3, target);
+            put_long(packet, 3, target);
         }
-        0x03 => packet[4] = allocation(random, 20),
-        0x12 => packet[4] = allocation(random, 36),
+        REQUEST_SENSE => packet[4] = allocation(random, length::SENSE as u8),
+        INQUIRY => packet[4] = allocation(random, length::INQUIRY as u8),
         _ => (),
     }
-    packet
 }
 
 /// An allocation length: around the whole, 0, or any.
@@ -376,12 +375,12 @@ fn signed_count(random: &mut Random, place: &Place) -> u32 {
 fn buffer_for(random: &mut Random, packet: &[u8; 12], place: &Place) -> Vec<u8> {
     let need = match packet[0] {
         READ | WRITE => u64::from(count_in(packet)) * u64::from(place.size),
-        0x03 => u64::from(packet[4].min(20)),
-        0x12 => u64::from(packet[4].min(36)),
+        REQUEST_SENSE => u64::from(packet[4].min(length::SENSE as u8)),
+        INQUIRY => u64::from(packet[4].min(length::INQUIRY as u8)),
         MODE_SELECT => u64::from(packet[4]),
-        MODE_SENSE if packet[2] & 0x3F == 0 => u64::from(packet[4].min(12)),
-        MODE_SENSE => u64::from(packet[4].min(32)),
-        READ_POSITION => 20,
+        MODE_SENSE if packet[2] & 0x3F == 0 => u64::from(packet[4].min(length::MODE_HEADER as u8)),
+        MODE_SENSE => u64::from(packet[4].min(length::MODE_WITH_PAGE as u8)),
+        READ_POSITION => length::POSITION as u64,
         _ => 0,
     };
     let length = match random.below(20) {
@@ -408,8 +407,8 @@ fn put_list(random: &mut Random, list: &mut [u8]) {
     if list.len() < 32 {
         return;
     }
-    list[12] = 0x2A;
-    list[13] = 0x12;
+    list[12] = page::CODE;
+    list[13] = page::LENGTH;
     put_word(list, 26, random.pick(&model::packet::SPEEDS));
     match random.below(10) {
         0 => list[12] = random.pick(&[0xAA, 0x2B, 0, 0x6A]),

@@ -2,12 +2,10 @@
 
 use std::collections::VecDeque;
 
+use tapecard::bytes::train::{COMMANDS, REPORTS, SKIPS};
+
 use crate::packet_sessions::{put_word, word_at};
 use crate::{Difference, PulseBench, PulseCall, Random};
-
-const SKIPS: [u16; 4] = [25, 26, 34, 35];
-const REPORTS: [u16; 6] = [6, 7, 8, 9, 32, 33];
-const COMMANDS: [u16; 12] = [3, 10, 11, 12, 13, 14, 18, 25, 26, 27, 34, 35];
 
 /// Makes calls, session after session, until `calls` are compared.
 pub fn run(bench: &mut PulseBench, random_seed: u64, calls: u64) -> Result<(), Box<Difference>> {

@@ -4,6 +4,7 @@ use compare::packet_sessions::{Shape, put_count, put_long, put_word};
 use compare::{Difference, PacketBench, Random, say};
 use model::Bug;
 use model::packet::Ending;
+use tapecard::bytes::{opcode, page};
 
 type Outcome = Result<(), Box<Difference>>;
 
@@ -46,7 +47,7 @@ fn plain(opcode: u8, byte_1: u8, count: u32) -> [u8; 12] {
 
 fn locate(target: u32) -> [u8; 12] {
     let mut packet = [0; 12];
-    packet[0] = 0x2B;
+    packet[0] = opcode::LOCATE;
     put_long(&mut packet, 3, target);
     packet
 }
@@ -55,7 +56,11 @@ fn locate(target: u32) -> [u8; 12] {
 fn image_is_refused(bench: &mut PacketBench, image: &[u8]) -> Result<bool, Box<Difference>> {
     bench.begin(&record_at(0), image);
     let mut refused = Vec::new();
-    for packet in [plain(0x03, 0, 20), plain(0x08, 1, 1), plain(0x0A, 1, 1)] {
+    for packet in [
+        plain(opcode::REQUEST_SENSE, 0, 20),
+        plain(opcode::READ, 1, 1),
+        plain(opcode::WRITE, 1, 1),
+    ] {
         let ending = bench.send(&packet, &[0x11; 1024])?;
         refused.push(ending == Ending::Refused(2));
     }
@@ -165,14 +170,18 @@ fn every_buffer_length() {
     let mut bench = PacketBench::new(Bug::None, 0);
     for size in [512, 1024] {
         let image = shape(size, 5, 5).image(&mut Random::new(2));
-        for opcode in [0x08, 0x0A] {
+        for opcode in [opcode::READ, opcode::WRITE] {
             for count in 0..=6 {
                 let need = count as usize * usize::from(size);
                 let packet = plain(opcode, 1, count);
                 agree(lengths_around(&mut bench, &image, &packet, need));
             }
         }
-        for (opcode, whole) in [(0x03, 20), (0x12, 36), (0x1A, 12)] {
+        for (opcode, whole) in [
+            (opcode::REQUEST_SENSE, 20),
+            (opcode::INQUIRY, 36),
+            (opcode::MODE_SENSE, 12),
+        ] {
             for asked in 0..=255u8 {
                 let need = usize::from(asked).min(whole);
                 let packet = plain(opcode, 0, u32::from(asked));
@@ -180,10 +189,10 @@ fn every_buffer_length() {
             }
         }
         for asked in 0..=255u8 {
-            let packet = plain(0x1A, 0, 0x2A_0000 + u32::from(asked));
+            let packet = plain(opcode::MODE_SENSE, 0, 0x2A_0000 + u32::from(asked));
             let need = usize::from(asked).min(32);
             agree(lengths_around(&mut bench, &image, &packet, need));
-            let packet = plain(0x15, 0, u32::from(asked));
+            let packet = plain(opcode::MODE_SELECT, 0, u32::from(asked));
             agree(lengths_around(
                 &mut bench,
                 &image,
@@ -191,7 +200,12 @@ fn every_buffer_length() {
                 usize::from(asked),
             ));
         }
-        agree(lengths_around(&mut bench, &image, &plain(0x34, 0, 0), 20));
+        agree(lengths_around(
+            &mut bench,
+            &image,
+            &plain(opcode::READ_POSITION, 0, 0),
+            20,
+        ));
         agree(huge_counts(&mut bench, &image, size));
     }
     say(&format!(
@@ -209,8 +223,8 @@ fn lengths_around(
     for length in [0, need.saturating_sub(1), need, need + 1, need + 77] {
         bench.begin(&record_at(0), image);
         let mut data = vec![0x77; length];
-        if packet[0] == 0x15 && length >= 32 {
-            data[12..14].copy_from_slice(&[0x2A, 0x12]);
+        if packet[0] == opcode::MODE_SELECT && length >= 32 {
+            data[12..14].copy_from_slice(&[page::CODE, page::LENGTH]);
             put_word(&mut data, 26, 125);
         }
         let ending = bench.send(packet, &data)?;
@@ -223,7 +237,7 @@ fn lengths_around(
 /// N * B passes 32 bits.
 fn huge_counts(bench: &mut PacketBench, image: &[u8], size: u16) -> Outcome {
     let wraps = (1u64 << 32) / u64::from(size);
-    for opcode in [0x08, 0x0A] {
+    for opcode in [opcode::READ, opcode::WRITE] {
         for count in [0xFF_FFFF, 0x80_0000, wraps as u32, wraps as u32 + 1] {
             for length in [0, 512, 1024, 4096] {
                 bench.begin(&record_at(5), image);
@@ -233,7 +247,7 @@ fn huge_counts(bench: &mut PacketBench, image: &[u8], size: u16) -> Outcome {
         }
     }
     bench.begin(&record_at(0), image);
-    bench.send(&plain(0x10, 0, 0xFF_FFFF), &[])?;
+    bench.send(&plain(opcode::WRITE_FILEMARK, 0, 0xFF_FFFF), &[])?;
     Ok(())
 }
 
@@ -294,20 +308,20 @@ fn small_image(kinds: u8, recorded: u32, warning: u16) -> Vec<u8> {
 fn moving_packets() -> Vec<[u8; 12]> {
     let mut packets = Vec::new();
     for count in 0..=5 {
-        packets.push(plain(0x08, 1, count));
-        packets.push(plain(0x0A, 1, count));
-        packets.push(plain(0x10, 0, count));
+        packets.push(plain(opcode::READ, 1, count));
+        packets.push(plain(opcode::WRITE, 1, count));
+        packets.push(plain(opcode::WRITE_FILEMARK, 0, count));
         packets.push(locate(count));
     }
     for code in [0, 1, 3] {
         for count in 0..=5 {
-            packets.push(plain(0x11, code, count));
-            packets.push(plain(0x11, code, 0xFF_FFFF - count));
+            packets.push(plain(opcode::SPACE, code, count));
+            packets.push(plain(opcode::SPACE, code, 0xFF_FFFF - count));
         }
-        packets.push(plain(0x11, code, 0x80_0000));
+        packets.push(plain(opcode::SPACE, code, 0x80_0000));
     }
-    packets.push(plain(0x01, 0, 0));
-    packets.push(plain(0x34, 0, 0));
+    packets.push(plain(opcode::REWIND, 0, 0));
+    packets.push(plain(opcode::READ_POSITION, 0, 0));
     packets
 }
 
@@ -321,7 +335,7 @@ fn every_record_rule() {
         put_word(&mut record, 6, speed);
         let refused = ![0, 62, 125, 250, 500].contains(&speed);
         bench.begin(&record, &image);
-        let ending = bench.send(&plain(0x00, 0, 0), &[]);
+        let ending = bench.send(&plain(opcode::TEST_UNIT_READY, 0, 0), &[]);
         agree(ending.map(|ending| assert_eq!(ending == Ending::Refused(3), refused)));
     }
     for key in 0..=255 {
@@ -352,7 +366,11 @@ fn refused_by_3(
     record: &[u8; 16],
     refused: bool,
 ) -> Outcome {
-    for opcode in [0x00, 0x03, 0x12] {
+    for opcode in [
+        opcode::TEST_UNIT_READY,
+        opcode::REQUEST_SENSE,
+        opcode::INQUIRY,
+    ] {
         bench.begin(record, image);
         let ending = bench.send(&plain(opcode, 0, 36), &[0; 36])?;
         assert_eq!(ending == Ending::Refused(3), refused);
@@ -381,34 +399,34 @@ fn the_largest_images() {
 }
 
 fn to_the_end_of_a_large_image(bench: &mut PacketBench, size: usize) -> Outcome {
-    bench.send(&plain(0x11, 1, 0x7F_FFFF), &TOUCHED)?;
-    bench.send(&plain(0x11, 1, 0x80_0000), &TOUCHED)?;
-    bench.send(&plain(0x11, 0, 0x1_0000), &TOUCHED)?;
+    bench.send(&plain(opcode::SPACE, 1, 0x7F_FFFF), &TOUCHED)?;
+    bench.send(&plain(opcode::SPACE, 1, 0x80_0000), &TOUCHED)?;
+    bench.send(&plain(opcode::SPACE, 0, 0x1_0000), &TOUCHED)?;
     bench.send(&locate(65_535), &TOUCHED)?;
-    bench.send(&plain(0x34, 0, 0), &[0; 20])?;
+    bench.send(&plain(opcode::READ_POSITION, 0, 0), &[0; 20])?;
     bench.send(&locate(65_536), &TOUCHED)?;
     bench.send(&locate(65_530), &TOUCHED)?;
     let mut data = vec![0; 8 * size];
     Random::new(7).fill(&mut data);
-    let ending = bench.send(&plain(0x0A, 1, 8), &data)?;
+    let ending = bench.send(&plain(opcode::WRITE, 1, 8), &data)?;
     assert_eq!(ending, Ending::CartridgeFull);
     assert_eq!(bench.answer()[4..8], [0, 0, 0, 5]);
     Ok(())
 }
 
 fn over_a_whole_large_image(bench: &mut PacketBench, size: usize) -> Outcome {
-    bench.send(&plain(0x01, 0, 0), &[])?;
+    bench.send(&plain(opcode::REWIND, 0, 0), &[])?;
     let mut everything = vec![0; 65_535 * size];
-    let ending = bench.send(&plain(0x0A, 1, 65_535), &everything)?;
+    let ending = bench.send(&plain(opcode::WRITE, 1, 65_535), &everything)?;
     assert_eq!(ending, Ending::Good);
     everything.fill(0xEE);
-    bench.send(&plain(0x01, 0, 0), &[])?;
-    let ending = bench.send(&plain(0x08, 1, 65_535), &everything)?;
+    bench.send(&plain(opcode::REWIND, 0, 0), &[])?;
+    let ending = bench.send(&plain(opcode::READ, 1, 65_535), &everything)?;
     assert_eq!(ending, Ending::Good);
     assert!(bench.data().iter().all(|&byte| byte == 0));
-    bench.send(&plain(0x11, 0, 0x80_0000), &TOUCHED)?;
+    bench.send(&plain(opcode::SPACE, 0, 0x80_0000), &TOUCHED)?;
     bench.send(&locate(100), &TOUCHED)?;
-    bench.send(&plain(0x10, 0, 0xFF_FFFF), &[])?;
-    bench.send(&plain(0x11, 1, 0x80_0000), &TOUCHED)?;
+    bench.send(&plain(opcode::WRITE_FILEMARK, 0, 0xFF_FFFF), &[])?;
+    bench.send(&plain(opcode::SPACE, 1, 0x80_0000), &TOUCHED)?;
     Ok(())
 }

@@ -5,6 +5,7 @@ use std::collections::VecDeque;
 use compare::packet_sessions::{Shape, long_at, put_count, put_long, word_at};
 use compare::{PacketBench, PulseBench, PulseCall, Random, pulse_sessions};
 use model::Bug;
+use tapecard::bytes::opcode;
 
 /// "Image C 4, B 512, W 0, kinds 1 2 1, U 3, attention cleared".
 fn packet_bench(position: u32, warning: u16) -> PacketBench {
@@ -43,7 +44,7 @@ fn send_packet(bench: &mut PacketBench, packet: &[u8]) {
 }
 
 fn sense_bytes(bench: &mut PacketBench) -> Vec<u8> {
-    send(bench, 0x03, 0, 20);
+    send(bench, opcode::REQUEST_SENSE, 0, 20);
     bench.data()[..20].to_vec()
 }
 
@@ -73,7 +74,7 @@ fn triple(bench: &PacketBench) -> [u8; 3] {
 #[test]
 fn two_reads() {
     let mut bench = packet_bench(0, 0);
-    send(&mut bench, 0x08, 1, 2);
+    send(&mut bench, opcode::READ, 1, 2);
     assert_eq!(
         (status(&bench), blocks(&bench), position(&bench)),
         (2, 1, 2)
@@ -83,7 +84,7 @@ fn two_reads() {
         0xF0, 0, 0x80, 0, 0, 0, 1, 0x0C, 0, 0, 0, 0, 0, 1, 0, 0, 0, 0, 0, 0,
     ];
     assert_eq!(sense_bytes(&mut bench), plate);
-    send(&mut bench, 0x08, 1, 2);
+    send(&mut bench, opcode::READ, 1, 2);
     assert_eq!(
         (status(&bench), blocks(&bench), position(&bench)),
         (2, 1, 3)
@@ -94,7 +95,7 @@ fn two_reads() {
 #[test]
 fn three_writes() {
     let mut bench = packet_bench(3, 0);
-    send(&mut bench, 0x0A, 1, 2);
+    send(&mut bench, opcode::WRITE, 1, 2);
     assert_eq!(
         (status(&bench), blocks(&bench), position(&bench)),
         (2, 1, 4)
@@ -103,38 +104,41 @@ fn three_writes() {
     assert_eq!(sense_bytes(&mut bench)[2], 0x4D);
 
     let mut bench = packet_bench(3, 1);
-    send(&mut bench, 0x0A, 1, 1);
+    send(&mut bench, opcode::WRITE, 1, 1);
     assert_eq!((status(&bench), blocks(&bench), residue(&bench)), (2, 1, 0));
     assert_eq!(sense_bytes(&mut bench)[2], 0x40);
 
     let mut bench = packet_bench(0, 0);
-    send(&mut bench, 0x0A, 1, 1);
+    send(&mut bench, opcode::WRITE, 1, 1);
     assert_eq!((status(&bench), long_at(bench.image(), 8)), (0, 1));
 }
 
 #[test]
 fn three_spaces() {
     let mut bench = packet_bench(3, 0);
-    send(&mut bench, 0x11, 1, 0xFF_FFFF);
+    send(&mut bench, opcode::SPACE, 1, 0xFF_FFFF);
     assert_eq!((status(&bench), position(&bench)), (0, 1));
 
     let mut bench = packet_bench(1, 0);
-    send(&mut bench, 0x11, 0, 1);
+    send(&mut bench, opcode::SPACE, 0, 1);
     assert_eq!((position(&bench), residue(&bench)), (2, 1));
 
     let mut bench = packet_bench(0, 0);
-    send(&mut bench, 0x11, 0, 0xFF_FFFF);
+    send(&mut bench, opcode::SPACE, 0, 0xFF_FFFF);
     assert_eq!((residue(&bench), triple(&bench)), (1, [0, 0, 4]));
 }
 
 #[test]
 fn locate_and_load() {
     let mut bench = packet_bench(0, 0);
-    send_packet(&mut bench, &[0x2B, 0, 0, 0, 0, 0, 4, 0, 0, 0, 0, 0]);
+    send_packet(
+        &mut bench,
+        &[opcode::LOCATE, 0, 0, 0, 0, 0, 4, 0, 0, 0, 0, 0],
+    );
     assert_eq!((position(&bench), triple(&bench)), (3, [8, 0, 5]));
 
     let mut bench = packet_bench(0, 0);
-    send(&mut bench, 0x1B, 0, 5);
+    send(&mut bench, opcode::LOAD_UNLOAD, 0, 5);
     assert_eq!(triple(&bench), [5, 0x24, 0]);
 }
 
@@ -220,6 +224,6 @@ fn wrong_prints_are_ruled_out() {
     assert_eq!(bench.record()[14], 26);
 
     let mut bench = packet_bench(1, 0);
-    send(&mut bench, 0x0A, 1, 1);
+    send(&mut bench, opcode::WRITE, 1, 1);
     assert_eq!(long_at(bench.image(), 8), 2);
 }

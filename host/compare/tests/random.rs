@@ -8,12 +8,19 @@ use compare::{calls_wanted, packet_sessions, pulse_sessions, say, seed_wanted};
 use model::Bug;
 use model::packet::{Ending, OPCODES};
 use model::pulse::{Branch, ERRORS};
+use tapecard::bytes::{opcode, page, train, triple};
 
 /// Calls for each drive where the environment names no other number.
 const USUAL_CALLS: u64 = 600_000;
 
 /// A run shorter than this is not asked to go everywhere.
 const COVERAGE_FROM: u64 = 300_000;
+
+/// The names that the tests go by are those of the model's list.
+#[test]
+fn the_named_opcodes_are_the_models() {
+    assert_eq!(opcode::ALL, OPCODES);
+}
 
 #[test]
 fn packet_drive() {
@@ -74,7 +81,7 @@ fn long_pulse_session() {
     let broken = bench.seen.branches.get(&Branch::Refused(8));
     assert_eq!(broken, None, "every call keeps the record rules");
     say(&format!(
-        "pulse drive: one session of {} calls compared, {} branches",
+        "pulse drive: seed {seed:#x}, one session of {} calls compared, {} branches",
         bench.seen.calls,
         bench.seen.branches.len()
     ));
@@ -96,68 +103,83 @@ fn packets_went_everywhere(seen: &PacketSeen) {
 /// Every sense triple of CHECK CONDITION.
 fn triples() -> BTreeSet<[u8; 3]> {
     BTreeSet::from([
-        [0x0, 0x00, 0x01],
-        [0x0, 0x00, 0x02],
-        [0x0, 0x00, 0x04],
-        [0x2, 0x3A, 0x00],
-        [0x3, 0x11, 0x00],
-        [0x5, 0x1A, 0x00],
-        [0x5, 0x20, 0x00],
-        [0x5, 0x24, 0x00],
-        [0x5, 0x26, 0x00],
-        [0x6, 0x28, 0x00],
-        [0x6, 0x29, 0x00],
-        [0x7, 0x27, 0x00],
-        [0x8, 0x00, 0x05],
-        [0xD, 0x00, 0x02],
+        triple::FILEMARK,
+        triple::EARLY_WARNING,
+        triple::BEGINNING,
+        triple::NOT_LOADED,
+        triple::UNREADABLE,
+        triple::LIST_LENGTH,
+        triple::UNKNOWN_COMMAND,
+        triple::BAD_FIELD,
+        triple::BAD_LIST,
+        triple::MEDIUM_CHANGED,
+        triple::RESET,
+        triple::PROTECTED,
+        triple::END_OF_DATA,
+        triple::FULL,
     ])
 }
+
+/// The endings that each command has of its own, by opcode and variant.
+const OWN_ENDINGS: [(u8, u8, &[Ending]); 27] = {
+    use Ending::*;
+    use opcode::*;
+    [
+        (TEST_UNIT_READY, 0, &[Good, NotLoaded]),
+        (REWIND, 0, &[Good, NotLoaded]),
+        (REQUEST_SENSE, 0, &[Good, Refused(4)]),
+        (READ, 0, &[BadField, NotLoaded, Refused(4), Good]),
+        (READ, 0, &[AtFilemark, AtUnreadable, AtEndOfData]),
+        (WRITE, 0, &[BadField, NotLoaded, Protected, Refused(4)]),
+        (WRITE, 0, &[Good, CartridgeFull, EarlyWarning]),
+        (WRITE_FILEMARK, 0, &[NotLoaded, Protected]),
+        (WRITE_FILEMARK, 0, &[Good, CartridgeFull, EarlyWarning]),
+        (SPACE, 0, &[Good, NotLoaded, AtFilemark, AtEndOfData]),
+        (SPACE, 8, &[Good, NotLoaded, AtFilemark, AtBeginning]),
+        (SPACE, 1, &[Good, AtEndOfData]),
+        (SPACE, 8 + 1, &[Good, AtBeginning]),
+        (SPACE, 3, &[Good, NotLoaded]),
+        (SPACE, 8 + 3, &[Good]),
+        (SPACE, 2, &[BadField]),
+        (SPACE, 7, &[BadField]),
+        (INQUIRY, 0, &[Good, Refused(4)]),
+        (MODE_SELECT, 0, &[Good]),
+        (MODE_SELECT, 12, &[Good, Refused(4)]),
+        (MODE_SELECT, 32, &[Good, Refused(4), BadList]),
+        (MODE_SELECT, 31, &[BadListLength]),
+        (MODE_SENSE, 0, &[Good, Refused(4)]),
+        (MODE_SENSE, page::CODE, &[Good, Refused(4)]),
+        (LOAD_UNLOAD, 0, &[Good, BadField]),
+        (LOCATE, 0, &[BadField, NotLoaded, Good, LocatedBeyond]),
+        (READ_POSITION, 0, &[NotLoaded, Refused(4), Good]),
+    ]
+};
 
 /// Every way that a packet can end, by opcode and variant.
 fn wanted_endings() -> Vec<(u8, u8, Ending)> {
     use Ending::*;
-    let own: [(u8, u8, &[Ending]); 27] = [
-        (0x00, 0, &[Good, NotLoaded]),
-        (0x01, 0, &[Good, NotLoaded]),
-        (0x03, 0, &[Good, Refused(4)]),
-        (0x08, 0, &[BadField, NotLoaded, Refused(4), Good]),
-        (0x08, 0, &[AtFilemark, AtUnreadable, AtEndOfData]),
-        (0x0A, 0, &[BadField, NotLoaded, Protected, Refused(4)]),
-        (0x0A, 0, &[Good, CartridgeFull, EarlyWarning]),
-        (0x10, 0, &[NotLoaded, Protected]),
-        (0x10, 0, &[Good, CartridgeFull, EarlyWarning]),
-        (0x11, 0, &[Good, NotLoaded, AtFilemark, AtEndOfData]),
-        (0x11, 8, &[Good, NotLoaded, AtFilemark, AtBeginning]),
-        (0x11, 1, &[Good, AtEndOfData]),
-        (0x11, 8 + 1, &[Good, AtBeginning]),
-        (0x11, 3, &[Good, NotLoaded]),
-        (0x11, 8 + 3, &[Good]),
-        (0x11, 2, &[BadField]),
-        (0x11, 7, &[BadField]),
-        (0x12, 0, &[Good, Refused(4)]),
-        (0x15, 0, &[Good]),
-        (0x15, 12, &[Good, Refused(4)]),
-        (0x15, 32, &[Good, Refused(4), BadList]),
-        (0x15, 31, &[BadListLength]),
-        (0x1A, 0, &[Good, Refused(4)]),
-        (0x1A, 0x2A, &[Good, Refused(4)]),
-        (0x1B, 0, &[Good, BadField]),
-        (0x2B, 0, &[BadField, NotLoaded, Good, LocatedBeyond]),
-        (0x34, 0, &[NotLoaded, Refused(4), Good]),
-    ];
     let mut wanted = Vec::new();
-    for (opcode, variant, endings) in own {
+    for (opcode, variant, endings) in OWN_ENDINGS {
         wanted.extend(endings.iter().map(|&ending| (opcode, variant, ending)));
     }
-    wanted.push((0x1A, 0x2B, BadField));
+    wanted.push((opcode::MODE_SENSE, 0x2B, BadField));
     for opcode in (0..=255).filter(|opcode| !OPCODES.contains(opcode)) {
         wanted.push((opcode, 0, UnknownOpcode));
     }
-    for opcode in [0x00, 0x01, 0x08, 0x0A, 0x10, 0x1B, 0x2B, 0x34] {
+    for opcode in [
+        opcode::TEST_UNIT_READY,
+        opcode::REWIND,
+        opcode::READ,
+        opcode::WRITE,
+        opcode::WRITE_FILEMARK,
+        opcode::LOAD_UNLOAD,
+        opcode::LOCATE,
+        opcode::READ_POSITION,
+    ] {
         let early = [Refused(1), Refused(2), Refused(3), MediumChanged, WasReset];
         wanted.extend(early.map(|ending| (opcode, 0, ending)));
     }
-    for opcode in [0x03, 0x12] {
+    for opcode in [opcode::REQUEST_SENSE, opcode::INQUIRY] {
         let early = [Refused(1), Refused(2), Refused(3)];
         wanted.extend(early.map(|ending| (opcode, 0, ending)));
     }
@@ -221,9 +243,9 @@ fn wanted_branches() -> Vec<Branch> {
         WaitedToLimit,
         WaitedReady,
     ];
-    wanted.extend([25, 26, 34, 35].map(SkipStarted));
-    wanted.extend([6, 7, 8, 9, 32, 33].map(Report));
-    wanted.extend([3, 10, 11, 12, 13, 14, 18, 25, 26, 27, 34, 35].map(Obeyed));
+    wanted.extend(train::SKIPS.map(|pulses| SkipStarted(pulses as u8)));
+    wanted.extend(train::REPORTS.map(|pulses| Report(pulses as u8)));
+    wanted.extend(train::COMMANDS.map(|pulses| Obeyed(pulses as u8)));
     wanted.extend([3, 18, 25, 26, 34, 35].map(ObeyedAfterStop));
     wanted
 }

@@ -22,7 +22,7 @@ fn files_come_back_byte_for_byte() {
         for (index, length) in lengths.iter().enumerate() {
             let number = (index + 1).to_string();
             place
-                .run(&["get", "t.img", &number, "-o", "back"])
+                .run(&["get", "t.img", &number, "-o", "back", "--force"])
                 .is_good(&format!("got back: {}\n", bytes(*length)));
             assert_eq!(place.read("back"), place.read(&format!("{length}.glyphs")));
         }
@@ -71,7 +71,9 @@ fn get_writes_under_the_files_own_name_or_to_standard_output() {
         .run(&["get", "t.img", "1", "--force"])
         .is_good("got runes: 9 bytes\n");
     assert_eq!(place.read("runes"), "ᚠᚢᚦ".as_bytes());
-    place.run(&["get", "t.img", "1", "-o", "-"]).is_good("ᚠᚢᚦ");
+    let said = place.run(&["get", "t.img", "1", "-o", "-"]);
+    assert_eq!((said.status, said.out.as_str()), (0, "ᚠᚢᚦ"));
+    assert_eq!(said.err, "got file 1 on standard output: 9 bytes\n");
 }
 
 #[test]
@@ -178,7 +180,8 @@ fn an_unreadable_block_is_named_and_nothing_is_written() {
     place.write("t.img", image);
     place.run(&["get", "t.img", "1", "-o", "back"]).is_bad(
         1,
-        "file 1: the block at place 2 is unreadable, so the file was not written. Take another copy of the image",
+        "file 1: the block at place 2 is unreadable, so the file was not written. Take another copy of the image, or what is \
+         left of it with --salvage",
     );
     assert_eq!(place.names(), ["f", "t.img"]);
 }
@@ -214,7 +217,8 @@ number  name      bytes  blocks  position
     assert_eq!(place.read("back"), [b'r'; 1024]);
     place.run(&["get", "t.img", "2"]).is_bad(
         1,
-        "file 2: its label speaks of other blocks than there are: it was cut short. Take another copy of the image",
+        "file 2: its label tells of 3 blocks and there are 2: it was cut short, so the file was not written. Take another \
+         copy of the image, or what is left of it with --salvage",
     );
     place.run(&["put", "t.img", "f"]).is_good(
         "closed file 2, which had no filemark\nput f as file 3: 1500 bytes in 4 blocks at place 7\n",

@@ -105,7 +105,8 @@ t.img
   medium type    0
   early warning  in the last 3 elements, from place 9
   layout         kinds at byte 32, blocks at byte 44
-  recorded       4 elements: 2 data blocks, 1 filemark, 1 unreadable; 8 blank
+  recorded       4 elements, 8 blank
+  of these       2 data blocks, 1 filemark, 1 unreadable
 
   [#!#|........]
    ^ position 0
@@ -126,10 +127,12 @@ fn the_strip_of_the_longest_tape() {
     let blank = format!("  [{}]", ".".repeat(64));
     said.has_lines(&[
         "  early warning  none",
-        "  recorded       0 elements: 0 data blocks, 0 filemarks, 0 unreadable; 65535 blank",
+        "  recorded       0 elements, 65535 blank",
+        "  of these       0 data blocks, 0 filemarks, 0 unreadable",
         &blank,
         "   ^ end of data, 0",
-        "  one cell for about 1024 elements; it shows the first of these that it holds: unreadable, filemark, data",
+        "  # data   | filemarks   + data and filemarks   ! some unreadable   . blank",
+        "  one cell for about 1024 elements",
     ]);
 }
 
@@ -163,4 +166,78 @@ fn a_directory_is_no_image() {
     Place::new()
         .run(&["info", "."])
         .is_bad(1, ". is no plain file; name a cartridge image");
+}
+
+#[test]
+fn a_file_of_one_byte_is_no_image() {
+    let place = Place::new();
+    place.write("t.img", "x");
+    let said = place.run(&["info", "t.img"]);
+    assert!(
+        said.err.contains("The file has 1 byte: it may"),
+        "{}",
+        said.err
+    );
+}
+
+/// A file of a tebibyte, most of it a hole.
+fn make_huge(place: &Place, name: &str) {
+    let file = std::fs::File::options()
+        .create(true)
+        .write(true)
+        .truncate(false)
+        .open(place.path(name));
+    file.unwrap().set_len(1 << 40).unwrap();
+}
+
+/// Its header says at once that it is no image, so it is not read into memory.
+#[test]
+fn a_huge_file_is_judged_by_its_header() {
+    let place = Place::new();
+    make_huge(&place, "huge");
+    for words in [
+        &["info", "huge"][..],
+        &["list", "huge"],
+        &["put", "huge", "f"],
+    ] {
+        let said = place.run(words);
+        assert_eq!(said.status, 1);
+        let told = "The file has 1099511627776 bytes";
+        assert!(said.err.contains(told), "{}", said.err);
+    }
+    let packet = [&["packet", "huge"][..], &["00"; 12]].concat();
+    let said = place.run(&packet);
+    said.has_lines(&["  refused   2: image breaks a header rule"]);
+}
+
+#[test]
+fn what_is_read_is_bounded() {
+    let place = Place::with_image(4, &[]);
+    place.run(&["new", "tail.img"]);
+    make_huge(&place, "tail.img");
+    let said = place.run(&["info", "tail.img"]);
+    let bound = "no image of more than 268435456 is taken";
+    assert!(said.err.contains(bound), "{}", said.err);
+    make_huge(&place, "huge");
+    let longer = "could not be read: it is longer than 67107840 bytes, more than the largest cartridge holds";
+    place
+        .run(&["packet", "t.img", "--data", "huge"])
+        .is_bad(1, &format!("the data huge {longer}; nothing was sent"));
+    place
+        .run(&["put", "t.img", "huge"])
+        .is_bad(1, &format!("huge {longer}; nothing was written"));
+}
+
+/// Ordinary files on the longest tape: their data is seen beside their filemarks.
+#[test]
+fn a_long_tape_shows_data_and_filemarks() {
+    let place = Place::with_image(65_535, &["--early-warning", "60000"]);
+    place.write("a", vec![1; 1_000_000]);
+    assert_eq!(place.run(&["put", "t.img", "a", "a"]).status, 0);
+    let said = place.run(&["info", "t.img"]);
+    let strip = format!("  [#+#+{}]", ".".repeat(60));
+    said.has_lines(&[&strip]);
+    for line in said.out.lines() {
+        assert!(line.chars().count() <= 80, "{line}");
+    }
 }

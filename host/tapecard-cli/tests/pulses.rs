@@ -104,51 +104,58 @@ fn refused_calls_are_told_and_the_session_goes_on() {
     ]);
 }
 
+/// Lines that no session takes, and what is said of each.
+const BAD_LINES: [(&str, &str); 8] = [
+    ("dance", "\"dance\" is no line of a pulse session"),
+    (
+        "train 70000",
+        "\"70000\" is no train: a train has up to 65535 pulses",
+    ),
+    ("2 x0", "\"0\" is no number of times from 1 to 65535"),
+    (
+        "tick soon",
+        "\"soon\" is no number of times from 1 to 65535",
+    ),
+    ("wait", "say how long to wait at most, as in wait 4095"),
+    (
+        "insert tracks=2",
+        "say at least segments and tracks, as in insert segments=207 tracks=28 place=40 burst",
+    ),
+    (
+        "insert segments=9 tracks=2 colour=red",
+        "\"colour=red\" describes no cartridge",
+    ),
+    (
+        "insert segments=9 tracks=256",
+        "\"tracks=256\" has no number that fits",
+    ),
+];
+
 #[test]
-fn bad_lines_end_a_script_and_keep_nothing() {
+fn bad_lines_end_a_script_and_what_was_answered_is_kept() {
     let place = Place::new();
-    for (line, sentence) in [
-        ("dance", "\"dance\" is no line of a pulse session"),
-        (
-            "train 70000",
-            "\"70000\" is no train: a train has up to 65535 pulses",
-        ),
-        ("2 x0", "\"0\" is no number of times from 1 to 65535"),
-        (
-            "tick soon",
-            "\"soon\" is no number of times from 1 to 65535",
-        ),
-        ("wait", "say how long to wait at most, as in wait 4095"),
-        (
-            "insert tracks=2",
-            "say at least segments and tracks, as in insert segments=207 tracks=28 place=40 burst",
-        ),
-        (
-            "insert segments=9 tracks=2 colour=red",
-            "\"colour=red\" describes no cartridge",
-        ),
-        (
-            "insert segments=9 tracks=256",
-            "\"tracks=256\" has no number that fits",
-        ),
-    ] {
+    for (line, sentence) in BAD_LINES {
         let said = place.run_with(
             &["pulse", "--record", "r"],
             format!("6\n{line}\n").as_bytes(),
         );
         assert_eq!(said.status, 1);
+        said.has_lines(&["6        level 1  report drive status"]);
+        assert_eq!(place.read("r")[17], 9, "the report is open");
+        std::fs::remove_file(place.path("r")).unwrap();
         assert_eq!(
             said.err,
             format!(
-                "tapecard: line 2: {sentence}; type help for what there is; nothing of this run was kept\n"
+                "tapecard: line 2: {sentence}; type help for what there is; the script ends here, and what the lines \
+                 before it did is kept\n"
             )
         );
     }
-    assert!(place.names().is_empty());
     let said = place.run_with(&["pulse"], b"ask 10\n");
     assert_eq!(
         said.err,
-        "tapecard: line 1: 10 asks for no report: say 6, 7, 8, 9, 32 or 33; nothing of this run was kept\n"
+        "tapecard: line 1: 10 asks for no report: say 6, 7, 8, 9, 32 or 33; the script ends here, and what the lines \
+         before it did is kept\n"
     );
 }
 

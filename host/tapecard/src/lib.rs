@@ -3,20 +3,23 @@
 //!
 //! [`packet`] answers 12-byte command packets over a lent cartridge image; [`pulse`] turns a pulse drive's record into the next by
 //! trains, ticks, insertion and removal. A call that is refused says so by a [`Refusal`] and changes nothing. [`sense_words`] puts
-//! statuses and sense triples into words. [`raw`] is the interface in bytes, for tests and tools that look at whole answers.
+//! statuses and sense triples into words. [`bytes`] names opcodes, sense triples and trains. [`raw`] is the interface in bytes, for
+//! tests and tools that look at whole answers.
 //!
 //! ```no_run
+//! use tapecard::bytes::opcode;
 //! use tapecard::packet::{Record, packet};
 //!
 //! let mut image = std::fs::read("cartridge.img").expect("an image");
 //! let mut record = Record::fresh();
 //! let mut room = [0; 36];
-//! let answer = packet(&mut record, &mut image, &[0x12, 0, 0, 0, 36, 0, 0, 0, 0, 0, 0, 0], &mut room)?;
+//! let answer = packet(&mut record, &mut image, &[opcode::INQUIRY, 0, 0, 0, 36, 0, 0, 0, 0, 0, 0, 0], &mut room)?;
 //! assert_eq!(&room[8..16], b"TYPEHAUS");
 //! assert_eq!(answer.bytes, 36);
 //! # Ok::<(), tapecard::Refusal>(())
 //! ```
 
+pub mod bytes;
 mod ffi;
 pub mod packet;
 pub mod pulse;

@@ -1,5 +1,6 @@
 //! The packet drive: a record of 16 bytes, a lent cartridge image, 12-byte packets.
 
+use crate::bytes::triple::Triple;
 use crate::{Refusal, ffi};
 
 /// Status of a packet that ended well.
@@ -89,6 +90,12 @@ impl Record {
             filemark: flags & 4 != 0,
             information: long_at(&self.0, 12),
         }
+    }
+}
+
+impl Sense {
+    pub fn triple(&self) -> Triple {
+        [self.key, self.asc, self.ascq]
     }
 }
 

@@ -1,5 +1,6 @@
 //! Statuses, sense triples, opcodes of the packet drive and error numbers of the pulse drive in words.
 
+use crate::bytes::{opcode, triple};
 use crate::packet::{CHECK_CONDITION, GOOD, Sense};
 
 /// A packet's status.
@@ -35,23 +36,23 @@ pub fn key(key: u8) -> &'static str {
 }
 
 /// What a sense triple of this drive says, `None` for a triple that it never gives.
-pub fn triple(key: u8, asc: u8, ascq: u8) -> Option<&'static str> {
-    let words = match (key, asc, ascq) {
-        (0x0, 0x00, 0x00) => "nothing to report",
-        (0x0, 0x00, 0x01) => "filemark detected",
-        (0x0, 0x00, 0x02) => "early warning passed",
-        (0x0, 0x00, 0x04) => "beginning of tape",
-        (0x2, 0x3A, 0x00) => "no cartridge loaded",
-        (0x3, 0x11, 0x00) => "unreadable block",
-        (0x5, 0x1A, 0x00) => "parameter list length error",
-        (0x5, 0x20, 0x00) => "unknown command",
-        (0x5, 0x24, 0x00) => "invalid field in packet",
-        (0x5, 0x26, 0x00) => "invalid field in parameter list",
-        (0x6, 0x28, 0x00) => "cartridge changed",
-        (0x6, 0x29, 0x00) => "power on or reset",
-        (0x7, 0x27, 0x00) => "write protected",
-        (0x8, 0x00, 0x05) => "end of data",
-        (0xD, 0x00, 0x02) => "end of tape",
+pub fn triple_in_words(key: u8, asc: u8, ascq: u8) -> Option<&'static str> {
+    let words = match [key, asc, ascq] {
+        triple::NOTHING => "nothing to report",
+        triple::FILEMARK => "filemark detected",
+        triple::EARLY_WARNING => "early warning passed",
+        triple::BEGINNING => "beginning of tape",
+        triple::NOT_LOADED => "no cartridge loaded",
+        triple::UNREADABLE => "unreadable block",
+        triple::LIST_LENGTH => "parameter list length error",
+        triple::UNKNOWN_COMMAND => "unknown command",
+        triple::BAD_FIELD => "invalid field in packet",
+        triple::BAD_LIST => "invalid field in parameter list",
+        triple::MEDIUM_CHANGED => "cartridge changed",
+        triple::RESET => "power on or reset",
+        triple::PROTECTED => "write protected",
+        triple::END_OF_DATA => "end of data",
+        triple::FULL => "end of tape",
         _ => return None,
     };
     Some(words)
@@ -59,7 +60,8 @@ pub fn triple(key: u8, asc: u8, ascq: u8) -> Option<&'static str> {
 
 /// The whole sense, such as `BLANK CHECK: end of data (8/00/05), residue 1`.
 pub fn sense(sense: &Sense) -> String {
-    let words = triple(sense.key, sense.asc, sense.ascq).unwrap_or("no sense of this drive");
+    let words =
+        triple_in_words(sense.key, sense.asc, sense.ascq).unwrap_or("no sense of this drive");
     let mut text = format!("{}: {} ({})", key(sense.key), words, digits(sense));
     if sense.valid {
         text.push_str(&format!(", residue {}", sense.information));
@@ -75,19 +77,19 @@ pub fn digits(sense: &Sense) -> String {
 /// A packet's first byte by its name, `None` for an opcode that the drive doesn't know.
 pub fn command(opcode: u8) -> Option<&'static str> {
     let name = match opcode {
-        0x00 => "TEST UNIT READY",
-        0x01 => "REWIND",
-        0x03 => "REQUEST SENSE",
-        0x08 => "READ",
-        0x0A => "WRITE",
-        0x10 => "WRITE FILEMARK",
-        0x11 => "SPACE",
-        0x12 => "INQUIRY",
-        0x15 => "MODE SELECT",
-        0x1A => "MODE SENSE",
-        0x1B => "LOAD/UNLOAD",
-        0x2B => "LOCATE",
-        0x34 => "READ POSITION",
+        opcode::TEST_UNIT_READY => "TEST UNIT READY",
+        opcode::REWIND => "REWIND",
+        opcode::REQUEST_SENSE => "REQUEST SENSE",
+        opcode::READ => "READ",
+        opcode::WRITE => "WRITE",
+        opcode::WRITE_FILEMARK => "WRITE FILEMARK",
+        opcode::SPACE => "SPACE",
+        opcode::INQUIRY => "INQUIRY",
+        opcode::MODE_SELECT => "MODE SELECT",
+        opcode::MODE_SENSE => "MODE SENSE",
+        opcode::LOAD_UNLOAD => "LOAD/UNLOAD",
+        opcode::LOCATE => "LOCATE",
+        opcode::READ_POSITION => "READ POSITION",
         _ => return None,
     };
     Some(name)
@@ -151,7 +153,8 @@ mod tests {
     fn statuses_and_commands() {
         assert_eq!(status(0), "GOOD");
         assert_eq!(status(2), "CHECK CONDITION");
-        assert_eq!(command(0x08), Some("READ"));
+        assert_eq!(command(opcode::READ), Some("READ"));
+        assert!(opcode::ALL.iter().all(|opcode| command(*opcode).is_some()));
         assert_eq!(command(0x19), None);
         assert_eq!(pulse_error(26), "power on reset occurred");
     }

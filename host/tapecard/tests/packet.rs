@@ -1,5 +1,6 @@
 //! The packet drive through its typed interface.
 
+use tapecard::bytes::{opcode, page};
 use tapecard::packet::{Answer, Attention, CHECK_CONDITION, GOOD, Record, Sense, packet};
 use tapecard::{Refusal, sense_words};
 
@@ -29,7 +30,7 @@ fn told_of_the_reset(image: &mut [u8]) -> Record {
 }
 
 fn read_2() -> [u8; 12] {
-    [0x08, 1, 0, 0, 2, 0, 0, 0, 0, 0, 0, 0]
+    [opcode::READ, 1, 0, 0, 2, 0, 0, 0, 0, 0, 0, 0]
 }
 
 #[test]
@@ -109,10 +110,10 @@ fn a_speed_is_selected() {
     let mut image = image();
     let mut record = told_of_the_reset(&mut image);
     let mut list = [0; 32];
-    list[12] = 0x2A;
-    list[13] = 0x12;
+    list[12] = page::CODE;
+    list[13] = page::LENGTH;
     list[27] = 125;
-    let select = [0x15, 0, 0, 0, 32, 0, 0, 0, 0, 0, 0, 0];
+    let select = [opcode::MODE_SELECT, 0, 0, 0, 32, 0, 0, 0, 0, 0, 0, 0];
     let answer = packet(&mut record, &mut image, &select, &mut list).expect("a right list");
     assert_eq!((answer.status, answer.bytes), (GOOD, 32));
     assert!(answer.is_good());

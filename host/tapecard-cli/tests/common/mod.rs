@@ -4,10 +4,13 @@
 #![allow(dead_code)]
 
 use std::fs;
-use std::io::Write;
-use std::path::{Path, PathBuf};
-use std::process::{self, Command, Stdio};
+use std::io::{Read, Write};
+use std::os::unix::process::ExitStatusExt;
+use std::path::PathBuf;
+use std::process::{self, Child, Command, Stdio};
 use std::sync::atomic::{AtomicU32, Ordering};
+use std::thread;
+use std::time::Duration;
 
 /// A directory that goes away with the test.
 pub struct Place {
@@ -15,6 +18,7 @@ pub struct Place {
 }
 
 pub struct Said {
+    /// The exit status; where a signal ended the command, its number below 0.
     pub status: i32,
     pub out: String,
     pub err: String,
@@ -68,7 +72,111 @@ impl Place {
     }
 
     pub fn run_with(&self, words: &[&str], input: &[u8]) -> Said {
-        run_in(&self.directory, words, input)
+        let mut running = self.start(words);
+        running.send(input);
+        running.end()
+    }
+
+    /// Starts the command and goes on while it runs.
+    pub fn start(&self, words: &[&str]) -> Running {
+        let mut command = tapecard();
+        command.args(words);
+        self.start_command(command)
+    }
+
+    /// Runs a line of the shell in which `$TAPECARD` is the command.
+    pub fn shell(&self, line: &str) -> Said {
+        self.start_shell(line).end()
+    }
+
+    pub fn start_shell(&self, line: &str) -> Running {
+        let mut shell = Command::new("sh");
+        shell
+            .args(["-c", line])
+            .env("TAPECARD", command_words().join(" "));
+        self.start_command(shell)
+    }
+
+    fn start_command(&self, mut command: Command) -> Running {
+        let child = command
+            .current_dir(&self.directory)
+            .stdin(Stdio::piped())
+            .stdout(Stdio::piped())
+            .stderr(Stdio::piped())
+            .spawn()
+            .expect("the command starts");
+        Running { child }
+    }
+}
+
+/// A command that is at work.
+pub struct Running {
+    child: Child,
+}
+
+impl Running {
+    /// A command that does not read its input may have ended before it is written.
+    pub fn send(&mut self, input: &[u8]) {
+        let _ = self
+            .child
+            .stdin
+            .as_mut()
+            .expect("its input")
+            .write_all(input);
+    }
+
+    /// Reads its output until this text has come.
+    pub fn hear(&mut self, text: &str) {
+        read_until(self.child.stdout.as_mut().expect("its output"), text);
+    }
+
+    /// Reads its standard error until this text has come.
+    pub fn hear_error(&mut self, text: &str) {
+        read_until(self.child.stderr.as_mut().expect("its errors"), text);
+    }
+
+    /// Sends a signal by its name.
+    pub fn signal(&self, name: &str) {
+        let number = self.child.id().to_string();
+        let sent = Command::new("kill").args(["-s", name, &number]).status();
+        assert!(sent.expect("kill runs").success());
+    }
+
+    /// Sends a signal and waits for the end that it brings; input stays open until then.
+    pub fn end_by(mut self, signal: &str) -> Said {
+        self.signal(signal);
+        let input = self.child.stdin.take();
+        let said = self.end();
+        drop(input);
+        said
+    }
+
+    /// Sends a signal, reads nothing, and waits some seconds for the end that it should bring.
+    pub fn ends_unread_by(&mut self, signal: &str) -> bool {
+        self.signal(signal);
+        (0..500).any(|_| {
+            thread::sleep(Duration::from_millis(10));
+            self.child.try_wait().expect("a child").is_some()
+        })
+    }
+
+    /// Closes its output, as `head` does when it has seen enough.
+    pub fn close_output(&mut self) {
+        self.child.stdout = None;
+    }
+
+    pub fn end(mut self) -> Said {
+        self.child.stdin = None;
+        let done = self.child.wait_with_output().expect("the command ends");
+        Said {
+            status: done
+                .status
+                .code()
+                .unwrap_or_else(|| -done.status.signal().expect("a signal ended it")),
+            out: String::from_utf8_lossy(&done.stdout).into_owned(),
+            err: String::from_utf8_lossy(&done.stderr).into_owned(),
+            bytes: done.stdout,
+        }
     }
 }
 
@@ -107,34 +215,39 @@ impl Said {
     }
 }
 
-fn run_in(directory: &Path, words: &[&str], input: &[u8]) -> Said {
-    let mut child = tapecard()
-        .args(words)
-        .current_dir(directory)
-        .stdin(Stdio::piped())
-        .stdout(Stdio::piped())
-        .stderr(Stdio::piped())
-        .spawn()
-        .expect("the command starts");
-    // A command that does not read its input may have ended before it is written.
-    let _ = child.stdin.take().expect("its input").write_all(input);
-    let done = child.wait_with_output().expect("the command ends");
-    Said {
-        status: done.status.code().expect("the command ends by itself"),
-        out: String::from_utf8_lossy(&done.stdout).into_owned(),
-        err: String::from_utf8_lossy(&done.stderr).into_owned(),
-        bytes: done.stdout,
-    }
+/// The command, under the emulator that the environment names where the archive is for another processor. `TAPECARD` may name
+/// another build of it.
+///
+/// Whoever runs the tests may have set signals to be ignored, as a background job has; the command would honour that.
+fn tapecard() -> Command {
+    let mut command = Command::new("env");
+    command
+        .arg("--default-signal=INT,TERM,HUP")
+        .args(command_words());
+    command
 }
 
-/// The command, under the emulator that the environment names where the archive is for another processor.
-fn tapecard() -> Command {
-    let program = env!("CARGO_BIN_EXE_tapecard");
-    let emulator = std::env::var("TAPECARD_RUN").unwrap_or_default();
-    let mut words = emulator.split_whitespace().chain([program]);
-    let mut command = Command::new(words.next().unwrap_or(program));
-    command.args(words);
-    command
+fn command_words() -> Vec<String> {
+    let word = |name: &str| std::env::var(name).unwrap_or_default();
+    let emulator = word("TAPECARD_RUN");
+    let mut words: Vec<String> = emulator.split_whitespace().map(String::from).collect();
+    let other = word("TAPECARD");
+    words.push(match other.as_str() {
+        "" => env!("CARGO_BIN_EXE_tapecard").into(),
+        _ => other,
+    });
+    words
+}
+
+fn read_until(from: &mut impl Read, text: &str) {
+    let mut heard = Vec::new();
+    let mut byte = [0];
+    while !heard.ends_with(text.as_bytes()) {
+        let read = from.read(&mut byte).expect("it can be read");
+        let so_far = String::from_utf8_lossy(&heard);
+        assert_eq!(read, 1, "it ended before {text:?}: {so_far}");
+        heard.push(byte[0]);
+    }
 }
 
 /// Bytes that look random and are the same in every run.

@@ -1,0 +1,71 @@
+//! The bytes that a packet needs beside itself.
+
+use tapecard::Refusal;
+use tapecard::bytes::opcode;
+
+use crate::tape::header::LARGEST_CAPACITY;
+use crate::words;
+
+/// Room lent to a packet that returns less than a block.
+const SMALL_ROOM: u64 = 256;
+/// The largest room lent: more than the largest tape holds.
+pub const LARGEST_ROOM: u64 = 64 * 1024 * 1024;
+
+/// The packet takes bytes from the host.
+pub fn takes_data(packet: &[u8]) -> bool {
+    matches!(packet.first(), Some(&(opcode::WRITE | opcode::MODE_SELECT)))
+}
+
+/// The packet may store on the tape.
+pub fn stores(packet: &[u8]) -> bool {
+    matches!(
+        packet.first(),
+        Some(&(opcode::WRITE | opcode::WRITE_FILEMARK))
+    )
+}
+
+/// The room to lend where none is asked for.
+pub fn usual(packet: &[u8], block_size: u64) -> u64 {
+    match packet.first() {
+        Some(&opcode::READ) => needed(packet, block_size).min(LARGEST_ROOM),
+        _ => SMALL_ROOM,
+    }
+}
+
+/// Bytes that the packet moves at the most.
+fn needed(packet: &[u8], block_size: u64) -> u64 {
+    match packet {
+        [opcode::READ | opcode::WRITE, _, high, middle, low, ..] => {
+            u64::from(u32::from_be_bytes([0, *high, *middle, *low])) * block_size
+        }
+        [_, _, _, _, length, ..] => (*length).into(),
+        _ => 0,
+    }
+}
+
+/// What to do about a refusal; none where there is nothing to say.
+pub fn advice(refusal: Refusal, packet: &[u8], block_size: u64, data_left: u64) -> Option<String> {
+    Some(match refusal.number {
+        1 => "write twelve bytes".into(),
+        2 => "take another copy of the image, or make one with tapecard new".into(),
+        3 => "the record is not of this image: send the line `change`, or name\n            another --record".into(),
+        4 => about_room(packet, block_size, data_left),
+        _ => return None,
+    })
+}
+
+fn about_room(packet: &[u8], block_size: u64, data_left: u64) -> String {
+    let needed = needed(packet, block_size);
+    let bytes = words::count(needed, "byte");
+    if takes_data(packet) && needed > LARGEST_ROOM {
+        format!("ask for fewer blocks: no tape has more than {LARGEST_CAPACITY}")
+    } else if takes_data(packet) {
+        format!("give {bytes} with --data FILE; {data_left} are left there")
+    } else if needed > LARGEST_ROOM {
+        format!(
+            "ask for fewer blocks: no tape has more than {LARGEST_CAPACITY},\n            and no room of {bytes} is lent"
+        )
+    } else {
+        format!("it needs up to {bytes}: give as much with --room, or leave it out")
+    }
+}

@@ -1,0 +1,4 @@
+//! The pulse drive as a person follows it.
+
+pub mod reports;
+pub mod state;

@@ -1,0 +1,61 @@
+//! The packets that the file commands send.
+
+use tapecard::bytes::{length, opcode, page, space};
+
+pub type Packet = [u8; 12];
+
+pub fn test_unit_ready() -> Packet {
+    packet(opcode::TEST_UNIT_READY, 0, 0)
+}
+
+pub fn rewind() -> Packet {
+    packet(opcode::REWIND, 0, 0)
+}
+
+pub fn request_sense() -> Packet {
+    let mut bytes = packet(opcode::REQUEST_SENSE, 0, 0);
+    bytes[4] = length::SENSE as u8;
+    bytes
+}
+
+/// READ in fixed blocks.
+pub fn read(blocks: u32) -> Packet {
+    packet(opcode::READ, 1, blocks)
+}
+
+/// WRITE in fixed blocks.
+pub fn write(blocks: u32) -> Packet {
+    packet(opcode::WRITE, 1, blocks)
+}
+
+pub fn write_filemark() -> Packet {
+    packet(opcode::WRITE_FILEMARK, 0, 1)
+}
+
+/// SPACE to just beyond the next filemark.
+pub fn space_beyond_filemark() -> Packet {
+    packet(opcode::SPACE, space::FILEMARKS, 1)
+}
+
+pub fn space_to_end_of_data() -> Packet {
+    packet(opcode::SPACE, space::END_OF_DATA, 0)
+}
+
+pub fn locate(place: u32) -> Packet {
+    let mut bytes = packet(opcode::LOCATE, 0, 0);
+    bytes[3..7].copy_from_slice(&place.to_be_bytes());
+    bytes
+}
+
+/// MODE SENSE for page 2Ah.
+pub fn mode_sense() -> Packet {
+    let mut bytes = packet(opcode::MODE_SENSE, 0, 0);
+    bytes[2] = page::CODE;
+    bytes[4] = length::MODE_WITH_PAGE as u8;
+    bytes
+}
+
+fn packet(opcode: u8, flags: u8, count: u32) -> Packet {
+    let [_, high, middle, low] = count.to_be_bytes();
+    [opcode, flags, high, middle, low, 0, 0, 0, 0, 0, 0, 0]
+}

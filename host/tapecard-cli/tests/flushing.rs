@@ -1,0 +1,78 @@
+//! What is written is flushed to the disk, the file before its name and the folder after it.
+
+mod common;
+
+use std::process::Command;
+
+use common::{Place, Said};
+
+/// Tells of fsync and rename in the order of the calls; with FAILS set the folder cannot be flushed.
+const LISTENER: &str = r#"
+#define _GNU_SOURCE
+#include <dlfcn.h>
+#include <errno.h>
+#include <stdio.h>
+#include <stdlib.h>
+#include <sys/stat.h>
+
+static void tell(const char *what) {
+    FILE *log = fopen(getenv("CALLS"), "a");
+    fprintf(log, "%s\n", what);
+    fclose(log);
+}
+
+int fsync(int fd) {
+    struct stat about;
+    fstat(fd, &about);
+    tell(S_ISDIR(about.st_mode) ? "flush folder" : "flush file");
+    if (S_ISDIR(about.st_mode) && getenv("FAILS")) {
+        errno = EIO;
+        return -1;
+    }
+    return ((int (*)(int))dlsym(RTLD_NEXT, "fsync"))(fd);
+}
+
+int rename(const char *from, const char *to) {
+    tell("rename");
+    return ((int (*)(const char *, const char *))dlsym(RTLD_NEXT, "rename"))(from, to);
+}
+"#;
+
+/// Puts a file while the listener listens.
+fn put(place: &Place, setting: &str) -> Said {
+    place.write("f", "glyphs");
+    place.write("listener.c", LISTENER);
+    let compiler = std::env::var("TAPECARD_CC").unwrap_or("gcc".into());
+    let built = Command::new(compiler)
+        .args(["-shared", "-fPIC", "-o"])
+        .args([place.path("listener.so"), place.path("listener.c")])
+        .arg("-ldl")
+        .status();
+    assert!(built.expect("a C compiler").success());
+    place.shell(&format!(
+        "{setting} CALLS=calls LD_PRELOAD=./listener.so exec $TAPECARD put t.img f"
+    ))
+}
+
+#[test]
+fn file_and_folder_are_flushed_to_the_disk() {
+    let place = Place::with_image(8, &[]);
+    let said = put(&place, "");
+    assert_eq!(said.status, 0, "{}", said.err);
+    let calls = String::from_utf8(place.read("calls")).unwrap();
+    let mut calls: Vec<&str> = calls.lines().collect();
+    // An emulator for this very processor is listened to as well.
+    calls.dedup();
+    assert_eq!(calls, ["flush file", "rename", "flush folder"]);
+}
+
+#[test]
+fn a_folder_that_cannot_be_flushed_is_told() {
+    let place = Place::with_image(8, &[]);
+    let said = put(&place, "FAILS=1");
+    assert_eq!(said.status, 0, "{}", said.err);
+    let told =
+        "tapecard: t.img has its new content, but its folder could not be flushed to the disk (";
+    assert!(said.err.contains(told), "{}", said.err);
+    assert!(place.run(&["list", "t.img"]).out.contains(" f "));
+}

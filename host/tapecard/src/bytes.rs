@@ -1,0 +1,138 @@
+//! The bytes that packets, answers and trains are made of, by their names: each stands here and nowhere else in host/, but for
+//! the model, which is written from 01 alone.
+
+/// First bytes of the packets that the drive knows.
+pub mod opcode {
+    pub const TEST_UNIT_READY: u8 = 0x00;
+    pub const REWIND: u8 = 0x01;
+    pub const REQUEST_SENSE: u8 = 0x03;
+    pub const READ: u8 = 0x08;
+    pub const WRITE: u8 = 0x0A;
+    pub const WRITE_FILEMARK: u8 = 0x10;
+    pub const SPACE: u8 = 0x11;
+    pub const INQUIRY: u8 = 0x12;
+    pub const MODE_SELECT: u8 = 0x15;
+    pub const MODE_SENSE: u8 = 0x1A;
+    pub const LOAD_UNLOAD: u8 = 0x1B;
+    pub const LOCATE: u8 = 0x2B;
+    pub const READ_POSITION: u8 = 0x34;
+
+    /// All of them, in their order.
+    pub const ALL: [u8; 13] = [
+        TEST_UNIT_READY,
+        REWIND,
+        REQUEST_SENSE,
+        READ,
+        WRITE,
+        WRITE_FILEMARK,
+        SPACE,
+        INQUIRY,
+        MODE_SELECT,
+        MODE_SENSE,
+        LOAD_UNLOAD,
+        LOCATE,
+        READ_POSITION,
+    ];
+}
+
+/// What SPACE passes: the low three bits of its byte 1.
+pub mod space {
+    pub const BLOCKS: u8 = 0;
+    pub const FILEMARKS: u8 = 1;
+    pub const END_OF_DATA: u8 = 3;
+}
+
+/// Bytes that the drive returns or takes at the most.
+pub mod length {
+    pub const SENSE: usize = 20;
+    pub const INQUIRY: usize = 36;
+    pub const MODE_HEADER: usize = 12;
+    /// The mode header and the page behind it.
+    pub const MODE_WITH_PAGE: usize = 32;
+    pub const POSITION: usize = 20;
+}
+
+/// The mode page of the drive: its code and its length byte, and where in it the block size shows.
+pub mod page {
+    pub const CODE: u8 = 0x2A;
+    pub const LENGTH: u8 = 0x12;
+    pub const BLOCK_SIZE_AT: usize = 7;
+    /// The byte there where a block has 1,024 bytes.
+    pub const BLOCKS_OF_1024: u8 = 0x04;
+}
+
+/// Key, ASC and ASCQ of every sense that the drive gives.
+pub mod triple {
+    pub type Triple = [u8; 3];
+
+    pub const NOTHING: Triple = [0x0, 0x00, 0x00];
+    pub const FILEMARK: Triple = [0x0, 0x00, 0x01];
+    pub const EARLY_WARNING: Triple = [0x0, 0x00, 0x02];
+    pub const BEGINNING: Triple = [0x0, 0x00, 0x04];
+    pub const NOT_LOADED: Triple = [0x2, 0x3A, 0x00];
+    pub const UNREADABLE: Triple = [0x3, 0x11, 0x00];
+    pub const LIST_LENGTH: Triple = [0x5, 0x1A, 0x00];
+    pub const UNKNOWN_COMMAND: Triple = [0x5, 0x20, 0x00];
+    pub const BAD_FIELD: Triple = [0x5, 0x24, 0x00];
+    pub const BAD_LIST: Triple = [0x5, 0x26, 0x00];
+    pub const MEDIUM_CHANGED: Triple = [0x6, 0x28, 0x00];
+    pub const RESET: Triple = [0x6, 0x29, 0x00];
+    pub const PROTECTED: Triple = [0x7, 0x27, 0x00];
+    pub const END_OF_DATA: Triple = [0x8, 0x00, 0x05];
+    pub const FULL: Triple = [0xD, 0x00, 0x02];
+}
+
+/// Kinds of the elements below U; every other value is an unreadable block.
+pub mod kind {
+    pub const DATA: u8 = 1;
+    pub const FILEMARK: u8 = 2;
+}
+
+/// Pulses of the trains that the pulse drive knows.
+pub mod train {
+    pub const SOFT_RESET: u16 = 1;
+    pub const NEXT_BIT: u16 = 2;
+    pub const PAUSE: u16 = 3;
+    pub const STATUS: u16 = 6;
+    pub const ERROR: u16 = 7;
+    pub const CONFIGURATION: u16 = 8;
+    pub const ROM: u16 = 9;
+    pub const FORWARD: u16 = 10;
+    pub const PHYSICAL_REVERSE: u16 = 11;
+    pub const PHYSICAL_FORWARD: u16 = 12;
+    pub const SEEK_TRACK: u16 = 13;
+    pub const SEEK_LOAD_POINT: u16 = 14;
+    pub const STOP: u16 = 18;
+    pub const SKIP_REVERSE: u16 = 25;
+    pub const SKIP_FORWARD: u16 = 26;
+    pub const SELECT_RATE: u16 = 27;
+    pub const VENDOR: u16 = 32;
+    pub const TAPE_STATUS: u16 = 33;
+    pub const SKIP_FAR_REVERSE: u16 = 34;
+    pub const SKIP_FAR_FORWARD: u16 = 35;
+
+    /// Those that are answered bit by bit.
+    pub const REPORTS: [u16; 6] = [STATUS, ERROR, CONFIGURATION, ROM, VENDOR, TAPE_STATUS];
+    /// Those that go so many segments on or back.
+    pub const SKIPS: [u16; 4] = [
+        SKIP_REVERSE,
+        SKIP_FORWARD,
+        SKIP_FAR_REVERSE,
+        SKIP_FAR_FORWARD,
+    ];
+    /// Those that the drive obeys or rejects.
+    pub const COMMANDS: [u16; 12] = [
+        PAUSE,
+        FORWARD,
+        PHYSICAL_REVERSE,
+        PHYSICAL_FORWARD,
+        SEEK_TRACK,
+        SEEK_LOAD_POINT,
+        STOP,
+        SKIP_REVERSE,
+        SKIP_FORWARD,
+        SELECT_RATE,
+        SKIP_FAR_REVERSE,
+        SKIP_FAR_FORWARD,
+    ];
+}
