@@ -3,15 +3,9 @@
 # Run by `make demo`, after the archive and the command are built. TAPECARD may name another build of the command.
 set -euo pipefail
 cd "$(dirname "$0")/.."
-. scripts/host-env.sh
 
-command=${TAPECARD:-$PWD/host/$TAPECARD_BIN/tapecard}
-if [ ! -x "$command" ]; then
-    echo "demo: $command is not built; run make demo" >&2
-    exit 1
-fi
-# TAPECARD_RUN is the emulator's word where the archive is for another processor.
-tapecard() { $TAPECARD_RUN "$command" "$@"; }
+launcher=$PWD/scripts/tapecard
+tapecard() { "$launcher" "$@"; }
 
 place=$(mktemp -d)
 trap 'rm -rf "$place"' EXIT
