@@ -1,13 +1,18 @@
 /*
  * The drive card: a packet tape drive and a pulse tape drive, proved, over byte records that the caller keeps.
  *
- * Link target/staticlib/libtapecard.a, which `rt staticlib tapecard` makes. C99 and C++.
+ * Link target/staticlib/libtapecard.a, which `rt staticlib tapecard` makes (for x86-64). C99 and C++.
  *
- * - Numbers of several bytes in records, images, packets and answers are big-endian.
- * - Every call takes every input: no bytes, lengths or numbers are forbidden.
+ * A caller must give three things, which no proof can see:
+ * 1. Pointers that are valid for as many bytes as their length says, and valid also where that is 0.
+ * 2. Buffers that do not overlap: record, image, packet, data, answer and cartridge of one call are apart.
+ * 3. Lengths that are true: who says 12 where 11 bytes came is protected by nothing; who says 11 is refused with 1.
+ *
+ * Beyond these:
+ * - Every call takes every input: no bytes, lengths or numbers are forbidden. A short data buffer is refused with 4.
  * - A refused call (its answer's number is not 0) writes its answer and changes nothing else.
- * - Every pointer must be a valid one, also where its length is 0, and the buffers of one call must not overlap.
- *   No call keeps a pointer after it returns.
+ * - Numbers of several bytes in records, images, packets and answers are big-endian.
+ * - No call keeps a pointer after it returns.
  */
 #ifndef TAPECARD_H
 #define TAPECARD_H
