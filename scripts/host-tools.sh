@@ -24,11 +24,12 @@ if [ -z "$lacking" ]; then
 fi
 
 packages=(rustc-web cargo-web libstd-rust-web-dev:amd64 gcc-x86-64-linux-gnu libc6-dev-amd64-cross libc6:amd64 libgcc-s1:amd64 qemu-user)
-echo "host-tools: installing ${packages[*]}, since the proved archive is for x86-64 and this machine is $(uname -m)" >&2
 if ! command -v apt-get >/dev/null || [ "$(id -u)" != 0 ]; then
-    echo "host-tools: that takes Debian's apt-get and root; missing here: ${lacking//$'\n'/; }" >&2
+    printf 'host-tools: missing on this %s machine, where the proved archive for x86-64 needs them:\n%s\n' "$(uname -m)" "$lacking" >&2
+    echo "host-tools: to install them takes Debian's apt-get and root: ${packages[*]}" >&2
     exit 1
 fi
+echo "host-tools: installing ${packages[*]}, since the proved archive is for x86-64 and this machine is $(uname -m)" >&2
 dpkg --add-architecture amd64
 apt-get update -q >&2
 DEBIAN_FRONTEND=noninteractive apt-get install -y -q --no-install-recommends "${packages[@]}" >&2
