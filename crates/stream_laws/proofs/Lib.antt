@@ -5,4 +5,6 @@ pub mod Leaving
 pub mod PlateTable
 pub mod ReadingBack
 pub mod Refusals
+pub mod Storing
+pub mod Telling
 pub mod Working
