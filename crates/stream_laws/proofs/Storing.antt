@@ -3,8 +3,11 @@
 use Prim.Native.Nat.{ℕ, _+_, _*_, _-_, _≤_, _<_}
 use native.Mathlib.Nat.{le-refl, zero-add}
 use native.Mathlib.Omega.{arith}
+use mathlib.Core.Bool.{Bool, true, false}
 use mathlib.Core.List.{List}
-use mathlib.Core.Path.{_≡_, ap, _∙_}
+use mathlib.Core.Path.{_≡_, refl, ap, _∙_}
+use borrow.Author.Tests.{eqb-true, eqb-false}
+use lib.Dec.{eqb}
 use lib.ListN.{length}
 use Rattle.numbers.specs.Over.{part}
 use Rattle.image.specs.declared.elements.Kind.the-variants.{Filemark}
@@ -22,13 +25,15 @@ use Rattle.packet_parts.specs.declared.requests.Request.{Request}
 use Rattle.packet_parts.specs.declared.state.State.{State}
 use Rattle.stream_parts.specs.Checks.{askedBy}
 use Rattle.stream_parts.specs.Requests.{requestOf}
-use Rattle.stream.specs.Packet.{streamDevice}
+use Rattle.stream.specs.Packet.{streamDevice, packetStep}
 use Rattle.stream.specs.Work.{workOf, writeWork, writeEnds, markWork}
-use Rattle.packet_laws.specs.Words.{blocksOf}
+use Rattle.packet_laws.specs.Words.{numberOf, blocksOf}
 use Rattle.packet_laws.proofs.Refusals.{begins-passes}
 use Rattle.stream_laws.specs.Words.{IsRecorded, IsElement}
-use Rattle.stream_laws.specs.Demands.{BlocksStored, MarksStored}
+use Rattle.stream_laws.specs.Demands.{BlocksStored, MarksStored, NoneStored}
 use Rattle.stream_laws.proofs.Endings.{ends-is, ruly-of}
+use Rattle.stream_laws.proofs.Leaving.{accepted-leaves}
+use Rattle.stream_laws.proofs.Refusals.{refused-keeps}
 use Rattle.stream_laws.proofs.Working.{step-is, room-is}
 
 module _ (s : List ℕ) (st : State) (q : Request) (buf : List ℕ) (good : headerOf s ≡ Good (fieldsOf s)) (place : st .position ≤ fieldsOf s .recorded) where
@@ -88,3 +93,10 @@ marks-stored s st packet buf b c j n =
     let p = begins-passes streamDevice s st packet buf b in
     let e = step-is s st packet buf b WriteFilemarks c in
     rw e (marked s st (requestOf packet) buf (good-header s (p .good)) (ruly-of _ _ (p .ruly) .place) j (rw e at n))
+
+pub none-stored : NoneStored
+none-stored s st packet buf e = by (eqb (numberOf (packetStep s st packet buf)) 0) refl
+  where
+    by : (a : Bool) → eqb (numberOf (packetStep s st packet buf)) 0 ≡ a → packetStep s st packet buf .image ≡ s
+    by true f = accepted-leaves s st packet buf (eqb-true _ _ f) .none-stored e
+    by false f = refused-keeps s st packet buf (eqb-false _ _ f) .image-kept

@@ -10,14 +10,15 @@ use Rattle.image.specs.Header.{fieldsOf, keepsHeaderRules, withRecorded}
 use Rattle.opcodes.specs.declared.Command.the-variants.{Read, Write, WriteFilemarks}
 use Rattle.packet_parts.specs.declared.state.Outcome.{Outcome}
 use Rattle.packet_parts.specs.declared.state.State.{State}
-use Rattle.packet_parts.specs.States.{keepsRecordRules}
+use Rattle.packet_parts.specs.Answers.{Left}
+use Rattle.packet_parts.specs.States.{keepsRecordRules, atPlace, withSense}
 use Rattle.packet_laws.specs.Promises.{CutPacket as CutPacketOf, RefusedKeeps as RefusedKeepsOf, NumberExactly as NumberExactlyOf, BeginsExactly as BeginsExactlyOf}
 use Rattle.packet_laws.specs.Words.{numberOf, blocksOf, bytesOf}
 use Rattle.stream_parts.specs.Requests.{requestOf}
 use Rattle.stream.specs.Packet.{FreshPromise, ChangedPromise, PacketPromise, streamDevice, packetStep}
 use Rattle.stream_laws.specs.History.{Later}
-use Rattle.stream_laws.specs.Plates.{allAgree, plates}
-use Rattle.stream_laws.specs.Words.{residueOf, BeginsWork, Moves, Stores, IsRecorded, IsElement, ReadEnds, WriteEnds, passedBeside, EveryReadGives, Kept, AlikeBelowU}
+use Rattle.stream_laws.specs.Plates.{standing, sent, readTwo, allAgree, plates, BeginsAndMoves}
+use Rattle.stream_laws.specs.Words.{residueOf, BeginsWork, Moves, Stores, IsRecorded, IsElement, ReadEnds, WriteEnds, passedBeside, CountsData, TellSame, EveryReadGives, Kept, AlikeBelowU}
 
 -- What every packet device promises: "1: packet is not 12 bytes", whatever the image, the record and the buffer; nothing changes.
 abbrev pub CutPacket : Type 0
@@ -54,6 +55,14 @@ WriteTellsWhy =
     (s : List ℕ) (st : State) (packet buf : List ℕ) → BeginsWork s st packet buf → Stores (requestOf packet .command)
     → WriteEnds s (st .position) (requestOf packet .count) (packetStep s st packet buf)
 
+-- Of any two drives that keep to `ReadTellsWhy` and `ReadGives`, both tell the same of a READ: nothing of it is left open.
+abbrev pub ReadSettled : Type 0
+ReadSettled = (s : List ℕ) (p n : ℕ) (x y : Left State) → CountsData s p x → CountsData s p y → ReadEnds s p n x → ReadEnds s p n y → TellSame x y
+
+-- The same of WRITE and WRITE FILEMARK by `WriteTellsWhy` alone.
+abbrev pub WriteSettled : Type 0
+WriteSettled = (s : List ℕ) (p n : ℕ) (x y : Left State) → WriteEnds s p n x → WriteEnds s p n y → TellSame x y
+
 -- "Data: copied, P + 1. Filemark: P + 1 .. Unreadable: P + 1": where a READ leaves the drive can be told from its answer and sense alone.
 abbrev pub ReadStands : Type 0
 ReadStands =
@@ -74,6 +83,12 @@ pub record BytesAreBlocks : Type 0 where
       → bytesOf (packetStep s st packet buf) ≡ blocksOf (packetStep s st packet buf) * fieldsOf s .size
   pub filemarks : (s : List ℕ) (st : State) (packet buf : List ℕ) → BeginsWork s st packet buf → requestOf packet .command ≡ WriteFilemarks
       → bytesOf (packetStep s st packet buf) ≡ 0
+
+-- READ, WRITE and WRITE FILEMARK that begin change P and the sense of the record, nothing else.
+abbrev pub RecordKept : Type 0
+RecordKept =
+    (s : List ℕ) (st : State) (packet buf : List ℕ) → BeginsWork s st packet buf → Moves (requestOf packet .command)
+    → packetStep s st packet buf .state ≡ withSense (atPlace st (packetStep s st packet buf .state .position)) (packetStep s st packet buf .state .sense)
 
 -- "Prove that any two outcomes allowed by it coincide": what the promises of `packet`, `fresh` and `changed` allow.
 pub record Settled : Type 0 where
@@ -133,6 +148,10 @@ MarksStored =
     → (j : ℕ) → j < blocksOf (packetStep s st packet buf)
     → IsElement (packetStep s st packet buf .image) (st .position + j) Filemark
 
+-- "Blocks are elements copied or stored": a packet that counts none leaves the image as it was, U too.
+abbrev pub NoneStored : Type 0
+NoneStored = (s : List ℕ) (st : State) (packet buf : List ℕ) → blocksOf (packetStep s st packet buf) ≡ 0 → packetStep s st packet buf .image ≡ s
+
 -- "A written block reads back the same until something is stored at or before its place": block j of a WRITE is element P + j with its bytes through
 -- every later history, and every READ that moves it gives these bytes.
 abbrev pub ReadsBack : Type 0
@@ -146,3 +165,9 @@ ReadsBack =
 -- 01: "A small set is proved together as one table (*)"
 abbrev pub PlatesPrint : Type 0
 PlatesPrint = allAgree plates ≡ true
+
+-- What is asked above can be so: a READ, a WRITE and a WRITE FILEMARK that begin, and move an element.
+pub record WorkBegins : Type 0 where
+  pub read : BeginsAndMoves (standing 0) readTwo
+  pub write : BeginsAndMoves (standing 3) (sent 0x0a 1 0 0 1 0 0)
+  pub filemarks : BeginsAndMoves (standing 3) (sent 0x10 0 0 0 1 0 0)

@@ -1,6 +1,6 @@
 -- 01, "Plates that must print alike": those of the packet drive that are proved together as one table.
 -- Assumes nothing.
-use Prim.Native.Nat.{ℕ}
+use Prim.Native.Nat.{ℕ, _≤_}
 use mathlib.Core.Bool.{Bool, true, false, _&&_}
 use mathlib.Core.List.{List, [], _∷_, _++_}
 use lib.ListN.{replicate}
@@ -12,6 +12,8 @@ use Rattle.packet_parts.specs.Answers.{Left}
 use Rattle.stream.specs.Packet.{packetStep}
 use Rattle.packet_parts.specs.Replies.{senseBytes}
 use Rattle.packet_parts.specs.Senses.{noSense}
+use Rattle.packet_laws.specs.Words.{blocksOf}
+use Rattle.stream_laws.specs.Words.{BeginsWork}
 
 -- "Image C 4, B 512, W 0, kinds 1 2 1, U 3", here with any W
 abbrev pub image : ℕ → List ℕ
@@ -71,6 +73,11 @@ agrees p x =
 abbrev pub allAgree : List Plate → Bool
 allAgree [] = true
 allAgree (p ∷ ps) = agrees p (packetStep (image (p .warning)) (p .before) (p .packet) (replicate 1024 9)) && allAgree ps
+
+-- on this image the packet begins its work, with such a buffer, and moves an element
+abbrev pub BeginsAndMoves : State → List ℕ → Type 0
+BeginsAndMoves st packet =
+    BeginsWork (image 0) st packet (replicate 1024 9) × (1 ≤ blocksOf (packetStep (image 0) st packet (replicate 1024 9)))
 
 abbrev pub plates : List Plate
 plates =

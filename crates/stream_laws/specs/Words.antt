@@ -123,7 +123,8 @@ pub data WriteWay (h : Header) (p n blocks : ℕ) : ℕ → Sense → ℕ → Ty
   -- all N are stored, and the new P is not above C - W where N >= 1
   all-stored : blocks ≡ n → (1 ≤ n → p + blocks ≤ h .capacity - h .warning) → WriteWay h p n blocks goodStatus noSense (p + blocks)
   -- "If all N >= 1 are stored and P > C - W: CHECK CONDITION, key 0, EOM, 00/02, valid, information 0."
-  past-warning : blocks ≡ n → 1 ≤ n → h .capacity - h .warning < p + blocks → WriteWay h p n blocks checkCondition earlyWarning (p + blocks)
+  past-warning : blocks ≡ n → 1 ≤ n → h .capacity - h .warning < p + blocks → p + blocks ≤ h .capacity
+      → WriteWay h p n blocks checkCondition earlyWarning (p + blocks)
   -- "At P = C: stop, key D, EOM, 00/02, valid, information the rest."
   met-capacity : blocks < n → p + blocks ≡ h .capacity → WriteWay h p n blocks checkCondition (volumeOverflow (n - blocks)) (p + blocks)
 
@@ -133,6 +134,18 @@ WriteEnds s p n x = WriteWay (fieldsOf s) p n (blocksOf x) (statusOf x) (x .stat
 -- the elements that a READ passed beside the blocks that it copied, as its sense tells: a filemark, or the unreadable block of key 3
 abbrev pub passedBeside : Sense → ℕ
 passedBeside x = if x .filemark || (x .key ≡ᵇ 3) then 1 else 0
+
+-- each block that x counts is data of the image s from place p on, and stands whole in x's buffer
+abbrev pub CountsData : List ℕ → ℕ → Left State → Type 0
+CountsData s p x = (k : ℕ) → k < blocksOf x → IsRecorded s (p + k) (part (x .buf) (k * fieldsOf s .size) (fieldsOf s .size))
+
+-- x and y tell the same
+abbrev pub TellSame : Left State → Left State → Type 0
+TellSame x y =
+    (statusOf x ≡ statusOf y)
+    × (blocksOf x ≡ blocksOf y)
+    × (x .state .sense ≡ y .state .sense)
+    × (x .state .position ≡ y .state .position)
 
 -- ---- what is kept
 

@@ -62,15 +62,15 @@ module _ (s : List ℕ) (kinds end : ℕ) where
 module _ (end : ℕ) where
   -- from place p on, n elements: all are laid, or k of them, and the end stops it
   pub data LayStops (p n : ℕ) (m : Moved) : Type 0 where
-    all-laid : m .left ≡ 0 → m .place ≡ p + n → LayStops p n m
+    all-laid : m .left ≡ 0 → m .place ≡ p + n → p + n ≤ end → LayStops p n m
     at-end : (k : ℕ) → 1 ≤ m .left → k + m .left ≡ n → m .place ≡ p + k → p + k ≡ end → LayStops p n m
 
   lays-more : (n p : ℕ) (m : Moved) → LayStops (p + 1) n m → LayStops p (suc n) m
-  lays-more n p m (all-laid z w) = all-laid z (omega arith)
+  lays-more n p m (all-laid z w b) = all-laid z (omega arith) (omega arith)
   lays-more n p m (at-end k l e w b) = at-end (suc k) l (omega arith) (omega arith) (omega arith)
 
   module _ (lay : ℕ → ℕ → List ℕ → List ℕ) (size : ℕ) where
     pub lay-stops : {n off p : ℕ} {s : List ℕ} {X : Writing} → LayRun lay size end n off p s X → p ≤ end → LayStops p n (X .moved)
-    lay-stops (LayRun.full off p s) l = all-laid refl (omega arith)
+    lay-stops (LayRun.full off p s) l = all-laid refl (omega arith) (omega arith)
     lay-stops (LayRun.at-end n off p s h) l = at-end 0 (omega arith) (omega arith) (omega arith) (omega arith)
     lay-stops (LayRun.lays n off p s X h r) l = lays-more n p (X .moved) (lay-stops r (omega arith))
