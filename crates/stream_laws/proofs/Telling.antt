@@ -31,7 +31,9 @@ use Rattle.packet_laws.proofs.Refusals.{begins-passes, begins-work}
 use Rattle.stream_parts.specs.Requests.{requestOf}
 use Rattle.stream.specs.Packet.{streamDevice}
 use Rattle.stream.specs.Work.{endingOf, readEnds, readWork, writeEnding, writeEnds, writeWork, markWork, workOf}
-use Rattle.stream_laws.specs.Words.{Moves, by-read, by-write, by-filemarks, Stores, blocks, filemarks, CountsData, ReadWay, all-copied, met-filemark, met-bad-block, met-end, ReadEnds, WriteWay, all-stored, past-warning, met-capacity, WriteEnds, passedBeside}
+use Rattle.stream_laws.specs.Words.{Moves, by-read, by-write, by-filemarks, Stores, blocks, filemarks, CountsData, passedBeside}
+use Rattle.stream_laws.specs.Words.{ReadWay, all-copied, met-filemark, met-bad-block, met-end, ReadEnds}
+use Rattle.stream_laws.specs.Words.{WriteWay, all-stored, past-warning, met-capacity, WriteEnds}
 use Rattle.stream_laws.specs.Demands.{ReadTellsWhy, WriteTellsWhy, ReadSettled, WriteSettled, ReadStands, WriteStands, BytesAreBlocks, RecordKept}
 use Rattle.stream_laws.proofs.Endings.{senseOf, statusFor, ends-is, ruly-of}
 use Rattle.stream_laws.proofs.Working.{step-is}

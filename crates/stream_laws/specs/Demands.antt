@@ -18,7 +18,8 @@ use Rattle.stream_parts.specs.Requests.{requestOf}
 use Rattle.stream.specs.Packet.{FreshPromise, ChangedPromise, PacketPromise, streamDevice, packetStep}
 use Rattle.stream_laws.specs.History.{Later}
 use Rattle.stream_laws.specs.Plates.{standing, sent, readTwo, allAgree, plates, BeginsAndMoves}
-use Rattle.stream_laws.specs.Words.{residueOf, BeginsWork, Moves, Stores, IsRecorded, IsElement, ReadEnds, WriteEnds, passedBeside, CountsData, TellSame, EveryReadGives, Kept, AlikeBelowU}
+use Rattle.stream_laws.specs.Words.{residueOf, BeginsWork, Moves, Stores, IsRecorded, IsElement, EveryReadGives, Kept, AlikeBelowU}
+use Rattle.stream_laws.specs.Words.{ReadEnds, WriteEnds, passedBeside, CountsData, TellSame}
 
 -- What every packet device promises: "1: packet is not 12 bytes", whatever the image, the record and the buffer; nothing changes.
 abbrev pub CutPacket : Type 0
@@ -43,7 +44,7 @@ MovedPlusResidue =
     → blocksOf (packetStep s st packet buf) + residueOf (packetStep s st packet buf .state .sense) ≡ requestOf packet .count
 
 -- "Filemark: .. stop, key 0, filemark, 00/01. Unreadable: .. stop, 3/11/00. P = U: stop, 8/00/05": a READ that begins copies all N and ends GOOD, or
--- ends with the sense of what stands at P plus the blocks told, in the image.
+-- ends with the sense of what stands in the image at P plus the blocks told.
 abbrev pub ReadTellsWhy : Type 0
 ReadTellsWhy =
     (s : List ℕ) (st : State) (packet buf : List ℕ) → BeginsWork s st packet buf → requestOf packet .command ≡ Read
@@ -55,7 +56,7 @@ WriteTellsWhy =
     (s : List ℕ) (st : State) (packet buf : List ℕ) → BeginsWork s st packet buf → Stores (requestOf packet .command)
     → WriteEnds s (st .position) (requestOf packet .count) (packetStep s st packet buf)
 
--- Of any two drives that keep to `ReadTellsWhy` and `ReadGives`, both tell the same of a READ: nothing of it is left open.
+-- Any two drives that keep to `ReadTellsWhy` and `ReadGives` tell the same of a READ: nothing of it is left open.
 abbrev pub ReadSettled : Type 0
 ReadSettled = (s : List ℕ) (p n : ℕ) (x y : Left State) → CountsData s p x → CountsData s p y → ReadEnds s p n x → ReadEnds s p n y → TellSame x y
 
@@ -67,7 +68,8 @@ WriteSettled = (s : List ℕ) (p n : ℕ) (x y : Left State) → WriteEnds s p n
 abbrev pub ReadStands : Type 0
 ReadStands =
     (s : List ℕ) (st : State) (packet buf : List ℕ) → BeginsWork s st packet buf → requestOf packet .command ≡ Read
-    → packetStep s st packet buf .state .position ≡ st .position + blocksOf (packetStep s st packet buf) + passedBeside (packetStep s st packet buf .state .sense)
+    → packetStep s st packet buf .state .position
+    ≡ st .position + blocksOf (packetStep s st packet buf) + passedBeside (packetStep s st packet buf .state .sense)
 
 -- "bytes and kind 1 stored, P + 1", "filemarks by WRITE's rules": P plus the blocks told.
 abbrev pub WriteStands : Type 0
