@@ -32,4 +32,5 @@ work-begins =
       read = (record { not-refused = refl; works = refl }, omega arith);
       write = (record { not-refused = refl; works = refl }, omega arith);
       filemarks = (record { not-refused = refl; works = refl }, omega arith);
+      unreadable = refl;
     }

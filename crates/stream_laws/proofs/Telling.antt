@@ -1,15 +1,14 @@
 -- What READ, WRITE and WRITE FILEMARK tell: why they stopped, where the drive then stands, how many bytes were moved.
 -- Assumes nothing.
-use Prim.Native.Nat.{ℕ, _+_, _-_, _≤_, _<_}
+use Prim.Native.Nat.{ℕ, _+_, _-_, _≤_}
 use native.Mathlib.Omega.{arith}
-use mathlib.Core.Bool.{Bool, true, false, _&&_, false≢true}
+use mathlib.Core.Bool.{Bool, true, false, _&&_}
 use mathlib.Core.List.{List}
-use mathlib.Core.Path.{_≡_, refl, sym, ap, _∙_}
+use mathlib.Core.Path.{_≡_, refl}
 use borrow.Author.Tests.{le-leb, leb-true, leb-false, ltb-true, ltb-false}
 use lib.Dec.{leb, ltb}
 use Rattle.numbers.specs.Choice.{if_then_else_}
 use Rattle.image.specs.declared.header.Header.{Header}
-use Rattle.image.specs.Elements.{holdsData, isFilemark, kindAt}
 use Rattle.image.specs.Header.{fieldsOf}
 use Rattle.image.proofs.HeaderLaws.{good-header, sound}
 use Rattle.opcodes.specs.declared.Command.{Command}
@@ -23,18 +22,16 @@ use Rattle.packet_parts.specs.declared.requests.Request.{Request}
 use Rattle.packet_parts.specs.declared.state.Ending.the-variants.{Good, Check}
 use Rattle.packet_parts.specs.declared.state.Sense.{Sense}
 use Rattle.packet_parts.specs.declared.state.State.{State}
-use Rattle.packet_parts.specs.Senses.{volumeOverflow, earlyWarning}
-use Rattle.packet_parts.specs.Answers.{Left}
+use Rattle.packet_parts.specs.Senses.{earlyWarning}
 use Rattle.packet_parts.specs.States.{atPlace, withSense}
-use Rattle.packet_laws.specs.Words.{blocksOf}
 use Rattle.packet_laws.proofs.Refusals.{begins-passes, begins-work}
 use Rattle.stream_parts.specs.Requests.{requestOf}
 use Rattle.stream.specs.Packet.{streamDevice}
 use Rattle.stream.specs.Work.{endingOf, readEnds, readWork, writeEnding, writeEnds, writeWork, markWork, workOf}
-use Rattle.stream_laws.specs.Words.{Moves, by-read, by-write, by-filemarks, Stores, blocks, filemarks, CountsData, passedBeside}
+use Rattle.stream_laws.specs.Words.{Moves, by-read, by-write, by-filemarks, Stores, blocks, filemarks, passedBeside}
 use Rattle.stream_laws.specs.Words.{ReadWay, all-copied, met-filemark, met-bad-block, met-end, ReadEnds}
 use Rattle.stream_laws.specs.Words.{WriteWay, all-stored, past-warning, met-capacity, WriteEnds}
-use Rattle.stream_laws.specs.Demands.{ReadTellsWhy, WriteTellsWhy, ReadSettled, WriteSettled, ReadStands, WriteStands, BytesAreBlocks, RecordKept}
+use Rattle.stream_laws.specs.Demands.{ReadTellsWhy, WriteTellsWhy, ReadStands, WriteStands, BytesAreBlocks, RecordKept}
 use Rattle.stream_laws.proofs.Endings.{senseOf, statusFor, ends-is, ruly-of}
 use Rattle.stream_laws.proofs.Working.{step-is}
 
@@ -110,78 +107,6 @@ write-tells-why s st packet buf b c =
     let r = ruly-of _ _ (p .ruly) .place in
     let g = sound s (fieldsOf s) (good-header s (p .good)) in
     rw (begins-work streamDevice s st packet buf b) (write-told s st (requestOf packet) buf (omega arith) c)
-
--- ---- nothing is left open
-
-module _ {s : List ℕ} {p n : ℕ} where
-  read-within : {k status place : ℕ} {sense : Sense} → ReadWay s p n k status sense place → k ≤ n
-  read-within (all-copied e) = omega arith
-  read-within (met-filemark l e) = omega arith
-  read-within (met-bad-block l e) = omega arith
-  read-within (met-end l e) = omega arith
-
-  -- it did not stop at a data block
-  not-data : {k status place : ℕ} {sense : Sense} → ReadWay s p n k status sense place → k < n
-      → p + k < fieldsOf s .recorded → holdsData (kindAt s (fieldsOf s .kinds) (p + k)) ≡ true → ⊥
-  not-data (all-copied e) l b d = omega arith
-  not-data (met-filemark m e) l b d = false≢true (sym (ap holdsData (e .1)) ∙ d)
-  not-data (met-bad-block m e) l b d = false≢true (sym (ap holdsData (e .1)) ∙ d)
-  not-data (met-end m e) l b d = omega arith
-
-  read-same : {k a b a' b' : ℕ} {x x' : Sense} → ReadWay s p n k a x b → ReadWay s p n k a' x' b' → (a ≡ a') × (x ≡ x') × (b ≡ b')
-  read-same (all-copied e) (all-copied e') = (refl, refl, refl)
-  read-same (all-copied e) (met-filemark l d) = absurd (omega arith)
-  read-same (all-copied e) (met-bad-block l d) = absurd (omega arith)
-  read-same (all-copied e) (met-end l d) = absurd (omega arith)
-  read-same (met-filemark l d) (all-copied e) = absurd (omega arith)
-  read-same (met-filemark l d) (met-filemark l' d') = (refl, refl, refl)
-  read-same (met-filemark l d) (met-bad-block l' d') = absurd (false≢true (ap isFilemark (sym (d' .1) ∙ d .1)))
-  read-same (met-filemark l d) (met-end l' d') = absurd (omega (arith, d .0))
-  read-same (met-bad-block l d) (all-copied e) = absurd (omega arith)
-  read-same (met-bad-block l d) (met-filemark l' d') = absurd (false≢true (ap isFilemark (sym (d .1) ∙ d' .1)))
-  read-same (met-bad-block l d) (met-bad-block l' d') = (refl, refl, refl)
-  read-same (met-bad-block l d) (met-end l' d') = absurd (omega (arith, d .0))
-  read-same (met-end l d) (all-copied e) = absurd (omega arith)
-  read-same (met-end l d) (met-filemark l' d') = absurd (omega (arith, d' .0))
-  read-same (met-end l d) (met-bad-block l' d') = absurd (omega (arith, d' .0))
-  read-same (met-end l d) (met-end l' d') = (refl, refl, refl)
-
--- no drive that counts only data counts more than another that stops only where 01 says
-no-more : (s : List ℕ) (p n : ℕ) (x y : Left State) → CountsData s p x → ReadEnds s p n x → ReadEnds s p n y → blocksOf x ≤ blocksOf y
-no-more s p n x y d r t = by (leb (blocksOf x) (blocksOf y)) refl
-  where
-    by : (a : Bool) → leb (blocksOf x) (blocksOf y) ≡ a → blocksOf x ≤ blocksOf y
-    by true e = leb-true _ _ e
-    by false e =
-        let l : blocksOf y < blocksOf x = leb-false _ _ e in
-        let w = read-within r in
-        let b = d (blocksOf y) l in
-        absurd (not-data t (omega arith) (b .before) (b .holds))
-
-pub read-settled : ReadSettled
-read-settled s p n x y d d' r r' =
-    let a = no-more s p n x y d r r' in
-    let b = no-more s p n y x d' r' r in
-    let e : blocksOf x ≡ blocksOf y = omega arith in
-    let z = read-same (rw e at r) r' in
-    (z .0, e, z .1, z .2)
-
-write-same : {h : Header} {p n k a b k' a' b' : ℕ} {x x' : Sense} → WriteWay h p n k a x b → WriteWay h p n k' a' x' b'
-    → (a ≡ a') × (k ≡ k') × (x ≡ x') × (b ≡ b')
-write-same {p = p} (all-stored e l) (all-stored e' l') = let z = e ∙ sym e' in (refl, z, refl, ap (λ (i : ℕ). p + i) z)
-write-same (all-stored e l) (past-warning e' m w b) = absurd (omega (arith, l m))
-write-same (all-stored e l) (met-capacity m d) = absurd (omega (arith, l (omega arith)))
-write-same (past-warning e m w b) (all-stored e' l) = absurd (omega (arith, l m))
-write-same {p = p} (past-warning e m w b) (past-warning e' m' w' b') = let z = e ∙ sym e' in (refl, z, refl, ap (λ (i : ℕ). p + i) z)
-write-same (past-warning e m w b) (met-capacity l d) = absurd (omega arith)
-write-same (met-capacity m d) (all-stored e l) = absurd (omega (arith, l (omega arith)))
-write-same (met-capacity l d) (past-warning e m w b) = absurd (omega arith)
-write-same {p = p} {n = n} {k = k} {k' = k'} (met-capacity l d) (met-capacity l' d') =
-    let z : k ≡ k' = omega arith in
-    (refl, z, ap (λ (i : ℕ). volumeOverflow (n - i)) z, ap (λ (i : ℕ). p + i) z)
-
-pub write-settled : WriteSettled
-write-settled s p n x y r r' = write-same r r'
 
 -- ---- where the drive stands
 

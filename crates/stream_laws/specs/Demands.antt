@@ -4,6 +4,7 @@ use Prim.Native.Nat.{ℕ, _+_, _*_, _≤_, _<_}
 use mathlib.Core.Bool.{true}
 use mathlib.Core.List.{List}
 use mathlib.Core.Path.{_≡_}
+use lib.ListN.{replicate}
 use Rattle.numbers.specs.Over.{part}
 use Rattle.image.specs.declared.elements.Kind.the-variants.{Filemark}
 use Rattle.image.specs.Header.{fieldsOf, keepsHeaderRules, withRecorded}
@@ -11,15 +12,16 @@ use Rattle.opcodes.specs.declared.Command.the-variants.{Read, Write, WriteFilem
 use Rattle.packet_parts.specs.declared.state.Outcome.{Outcome}
 use Rattle.packet_parts.specs.declared.state.State.{State}
 use Rattle.packet_parts.specs.Answers.{Left}
+use Rattle.packet_parts.specs.Senses.{unreadableBlock}
 use Rattle.packet_parts.specs.States.{keepsRecordRules, atPlace, withSense}
 use Rattle.packet_laws.specs.Promises.{CutPacket as CutPacketOf, RefusedKeeps as RefusedKeepsOf, NumberExactly as NumberExactlyOf, BeginsExactly as BeginsExactlyOf}
 use Rattle.packet_laws.specs.Words.{numberOf, blocksOf, bytesOf}
 use Rattle.stream_parts.specs.Requests.{requestOf}
 use Rattle.stream.specs.Packet.{FreshPromise, ChangedPromise, PacketPromise, streamDevice, packetStep}
 use Rattle.stream_laws.specs.History.{Later}
-use Rattle.stream_laws.specs.Plates.{standing, sent, readTwo, allAgree, plates, BeginsAndMoves}
+use Rattle.stream_laws.specs.Plates.{unreadableAtTwo, standing, sent, readTwo, allAgree, plates, BeginsAndMoves}
 use Rattle.stream_laws.specs.Words.{residueOf, BeginsWork, Moves, Stores, IsRecorded, IsElement, EveryReadGives, Kept, AlikeBelowU}
-use Rattle.stream_laws.specs.Words.{ReadEnds, WriteEnds, passedBeside, CountsData, TellSame}
+use Rattle.stream_laws.specs.Words.{ReadEnds, WriteEnds, passedBeside, GoodRead, TellSame}
 
 -- What every packet device promises: "1: packet is not 12 bytes", whatever the image, the record and the buffer; nothing changes.
 abbrev pub CutPacket : Type 0
@@ -56,14 +58,6 @@ WriteTellsWhy =
     (s : List ℕ) (st : State) (packet buf : List ℕ) → BeginsWork s st packet buf → Stores (requestOf packet .command)
     → WriteEnds s (st .position) (requestOf packet .count) (packetStep s st packet buf)
 
--- Any two drives that keep to `ReadTellsWhy` and `ReadGives` tell the same of a READ: nothing of it is left open.
-abbrev pub ReadSettled : Type 0
-ReadSettled = (s : List ℕ) (p n : ℕ) (x y : Left State) → CountsData s p x → CountsData s p y → ReadEnds s p n x → ReadEnds s p n y → TellSame x y
-
--- The same of WRITE and WRITE FILEMARK by `WriteTellsWhy` alone.
-abbrev pub WriteSettled : Type 0
-WriteSettled = (s : List ℕ) (p n : ℕ) (x y : Left State) → WriteEnds s p n x → WriteEnds s p n y → TellSame x y
-
 -- "Data: copied, P + 1. Filemark: P + 1 .. Unreadable: P + 1": where a READ leaves the drive can be told from its answer and sense alone.
 abbrev pub ReadStands : Type 0
 ReadStands =
@@ -91,6 +85,16 @@ abbrev pub RecordKept : Type 0
 RecordKept =
     (s : List ℕ) (st : State) (packet buf : List ℕ) → BeginsWork s st packet buf → Moves (requestOf packet .command)
     → packetStep s st packet buf .state ≡ withSense (atPlace st (packetStep s st packet buf .state .position)) (packetStep s st packet buf .state .sense)
+
+-- A READ that begins is all that 01 asks of it, and nothing of it is left open: two drives that do what 01 asks leave the same.
+pub record ReadSettled : Type 0 where
+  pub good : (s : List ℕ) (st : State) (packet buf : List ℕ) → BeginsWork s st packet buf → requestOf packet .command ≡ Read
+      → GoodRead s st (requestOf packet .count) buf (packetStep s st packet buf)
+  pub one : (s : List ℕ) (st : State) (n : ℕ) (buf : List ℕ) (x y : Left State) → GoodRead s st n buf x → GoodRead s st n buf y → x ≡ y
+
+-- Two drives that keep to `WriteTellsWhy` tell the same of a WRITE or WRITE FILEMARK.
+abbrev pub WriteSettled : Type 0
+WriteSettled = (s : List ℕ) (p n : ℕ) (x y : Left State) → WriteEnds s p n x → WriteEnds s p n y → TellSame x y
 
 -- "Prove that any two outcomes allowed by it coincide": what the promises of `packet`, `fresh` and `changed` allow.
 pub record Settled : Type 0 where
@@ -168,8 +172,9 @@ ReadsBack =
 abbrev pub PlatesPrint : Type 0
 PlatesPrint = allAgree plates ≡ true
 
--- What is asked above can be so: a READ, a WRITE and a WRITE FILEMARK that begin, and move an element.
+-- What is asked above can be so: a READ, a WRITE and a WRITE FILEMARK that begin and move an element, a READ that meets an unreadable block.
 pub record WorkBegins : Type 0 where
   pub read : BeginsAndMoves (standing 0) readTwo
   pub write : BeginsAndMoves (standing 3) (sent 0x0a 1 0 0 1 0 0)
   pub filemarks : BeginsAndMoves (standing 3) (sent 0x10 0 0 0 1 0 0)
+  pub unreadable : packetStep unreadableAtTwo (standing 2) readTwo (replicate 1024 9) .state .sense ≡ unreadableBlock 2

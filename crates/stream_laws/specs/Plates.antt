@@ -3,7 +3,7 @@
 use Prim.Native.Nat.{ℕ, _≤_}
 use mathlib.Core.Bool.{Bool, true, false, _&&_}
 use mathlib.Core.List.{List, [], _∷_, _++_}
-use lib.ListN.{replicate}
+use lib.ListN.{replicate, set}
 use Rattle.numbers.specs.Choice.{_≡ᵇ_}
 use Rattle.image.specs.Header.{fieldsOf}
 use Rattle.packet_parts.specs.declared.state.Attention.the-variants.{Nothing}
@@ -20,6 +20,10 @@ abbrev pub image : ℕ → List ℕ
 image w =
     (0 ∷ 32 ∷ 2 ∷ 0 ∷ 0 ∷ 0 ∷ 0 ∷ 4 ∷ 0 ∷ 0 ∷ 0 ∷ 3 ∷ 0 ∷ 0 ∷ 0 ∷ 32 ∷ 0 ∷ 0 ∷ 0 ∷ 36 ∷ 0 ∷ 0 ∷ 0 ∷ w ∷ 0 ∷ 0 ∷ 0 ∷ 0 ∷ 0 ∷ 0 ∷ 0 ∷ 0 ∷ [])
     ++ (1 ∷ 2 ∷ 1 ∷ 0 ∷ replicate 2048 7)
+
+-- the same with W 0 and a kind of element 2 that is neither 1 nor 2
+abbrev pub unreadableAtTwo : List ℕ
+unreadableAtTwo = set (image 0) 34 7
 
 -- "attention cleared", at place p
 abbrev pub standing : ℕ → State

@@ -19,7 +19,8 @@ use Rattle.packet_parts.specs.declared.state.Sense.{Sense}
 use Rattle.packet_parts.specs.declared.state.State.{State}
 use Rattle.packet_parts.specs.Answers.{Left, goodStatus, checkCondition}
 use Rattle.packet_parts.specs.Senses.{noSense, filemarkDetected, unreadableBlock, endOfData, volumeOverflow, earlyWarning}
-use Rattle.packet_laws.specs.Words.{statusOf, blocksOf, bytesOf, Begins}
+use Rattle.packet_parts.specs.States.{atPlace, withSense}
+use Rattle.packet_laws.specs.Words.{numberOf, statusOf, blocksOf, bytesOf, Begins}
 use Rattle.stream_parts.specs.Requests.{requestOf}
 use Rattle.stream.specs.Packet.{streamDevice, packetStep}
 
@@ -138,6 +139,19 @@ passedBeside x = if x .filemark || (x .key ≡ᵇ 3) then 1 else 0
 -- each block that x counts is data of the image s from place p on, and stands whole in x's buffer
 abbrev pub CountsData : List ℕ → ℕ → Left State → Type 0
 CountsData s p x = (k : ℕ) → k < blocksOf x → IsRecorded s (p + k) (part (x .buf) (k * fieldsOf s .size) (fieldsOf s .size))
+
+-- all that 01 asks of a READ of N blocks, of any drive: x is what it leaves
+pub record GoodRead (s : List ℕ) (st : State) (n : ℕ) (buf : List ℕ) (x : Left State) : Type 0 where
+  pub accepted : numberOf x ≡ 0
+  -- status, sense and new P go by the blocks, which are data; the bytes by the blocks
+  pub ends : ReadEnds s (st .position) n x
+  pub counts : CountsData s (st .position) x
+  pub bytes : bytesOf x ≡ blocksOf x * fieldsOf s .size
+  -- the rest stays
+  pub state-kept : x .state ≡ withSense (atPlace st (x .state .position)) (x .state .sense)
+  pub image-kept : x .image ≡ s
+  pub buf-length : length (x .buf) ≡ length buf
+  pub buf-beyond : (i : ℕ) → bytesOf x ≤ i → getD (x .buf) i 0 ≡ getD buf i 0
 
 -- x and y tell the same
 abbrev pub TellSame : Left State → Left State → Type 0
