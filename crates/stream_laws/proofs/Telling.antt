@@ -28,7 +28,7 @@ use Rattle.packet_laws.proofs.Refusals.{begins-passes, begins-work}
 use Rattle.stream_parts.specs.Requests.{requestOf}
 use Rattle.stream.specs.Packet.{streamDevice}
 use Rattle.stream.specs.Work.{endingOf, readEnds, readWork, writeEnding, writeEnds, writeWork, markWork, workOf}
-use Rattle.stream_laws.specs.Words.{Moves, by-read, by-write, by-filemarks, Stores, blocks, filemarks, passedBeside}
+use Rattle.stream_laws.specs.Words.{Moves, by-read, by-write, by-filemarks, Stores, stores-blocks, stores-filemarks, passedBeside}
 use Rattle.stream_laws.specs.Words.{ReadWay, all-copied, met-filemark, met-bad-block, met-end, ReadEnds}
 use Rattle.stream_laws.specs.Words.{WriteWay, all-stored, past-warning, met-capacity, WriteEnds}
 use Rattle.stream_laws.specs.Demands.{ReadTellsWhy, WriteTellsWhy, ReadStands, WriteStands, BytesAreBlocks, RecordKept}
@@ -88,10 +88,10 @@ module _ (s : List ℕ) (st : State) (q : Request) (buf : List ℕ) where
 
   write-told : st .position ≤ h .capacity → {c : Command} → Stores c → WriteEnds s (st .position) (q .count) (workOf c s h st q buf)
   unfolding workOf writeWork markWork writeEnds
-  write-told l blocks =
+  write-told l stores-blocks =
       let run = lay-run (blockOf (h .size) (h .kinds) (h .blocks) buf) (h .size) (h .capacity) (q .count) 0 (st .position) s in
       rw ends-is (write-way h (st .position) (q .count) _ (lay-stops (h .capacity) _ _ run l))
-  write-told l filemarks =
+  write-told l stores-filemarks =
       let run = lay-run (markOf (h .kinds)) 0 (h .capacity) (q .count) 0 (st .position) s in
       rw ends-is (write-way h (st .position) (q .count) _ (lay-stops (h .capacity) _ _ run l))
 
@@ -116,7 +116,7 @@ read-stood (met-filemark l e) = refl
 read-stood (met-bad-block l e) = refl
 read-stood (met-end l e) = omega arith
 
-write-stood : {h : Header} {p n k status place : ℕ} {sense : Sense} → WriteWay h p n k status sense place → place ≡ p + k
+pub write-stood : {h : Header} {p n k status place : ℕ} {sense : Sense} → WriteWay h p n k status sense place → place ≡ p + k
 write-stood (all-stored e l) = refl
 write-stood (past-warning e l w b) = refl
 write-stood (met-capacity l e) = refl

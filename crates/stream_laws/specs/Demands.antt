@@ -21,7 +21,7 @@ use Rattle.stream.specs.Packet.{FreshPromise, ChangedPromise, PacketPromise, st
 use Rattle.stream_laws.specs.History.{Later}
 use Rattle.stream_laws.specs.Plates.{unreadableAtTwo, standing, sent, readTwo, allAgree, plates, BeginsAndMoves}
 use Rattle.stream_laws.specs.Words.{residueOf, BeginsWork, Moves, Stores, IsRecorded, IsElement, EveryReadGives, Kept, AlikeBelowU}
-use Rattle.stream_laws.specs.Words.{ReadEnds, WriteEnds, passedBeside, GoodRead, TellSame}
+use Rattle.stream_laws.specs.Words.{ReadEnds, WriteEnds, passedBeside, GoodRead, BlocksGood, MarksGood, SameBelowU}
 
 -- What every packet device promises: "1: packet is not 12 bytes", whatever the image, the record and the buffer; nothing changes.
 abbrev pub CutPacket : Type 0
@@ -92,9 +92,14 @@ pub record ReadSettled : Type 0 where
       → GoodRead s st (requestOf packet .count) buf (packetStep s st packet buf)
   pub one : (s : List ℕ) (st : State) (n : ℕ) (buf : List ℕ) (x y : Left State) → GoodRead s st n buf x → GoodRead s st n buf y → x ≡ y
 
--- Two drives that keep to `WriteTellsWhy` tell the same of a WRITE or WRITE FILEMARK.
-abbrev pub WriteSettled : Type 0
-WriteSettled = (s : List ℕ) (p n : ℕ) (x y : Left State) → WriteEnds s p n x → WriteEnds s p n y → TellSame x y
+-- The same of WRITE and WRITE FILEMARK, but for what means nothing: what the image has at U and above.
+pub record WriteSettled : Type 0 where
+  pub blocks-good : (s : List ℕ) (st : State) (packet buf : List ℕ) → BeginsWork s st packet buf → requestOf packet .command ≡ Write
+      → BlocksGood s st (requestOf packet .count) buf (packetStep s st packet buf)
+  pub marks-good : (s : List ℕ) (st : State) (packet buf : List ℕ) → BeginsWork s st packet buf → requestOf packet .command ≡ WriteFilemarks
+      → MarksGood s st (requestOf packet .count) buf (packetStep s st packet buf)
+  pub blocks-one : (s : List ℕ) (st : State) (n : ℕ) (buf : List ℕ) (x y : Left State) → BlocksGood s st n buf x → BlocksGood s st n buf y → SameBelowU x y
+  pub marks-one : (s : List ℕ) (st : State) (n : ℕ) (buf : List ℕ) (x y : Left State) → MarksGood s st n buf x → MarksGood s st n buf y → SameBelowU x y
 
 -- "Prove that any two outcomes allowed by it coincide": what the promises of `packet`, `fresh` and `changed` allow.
 pub record Settled : Type 0 where

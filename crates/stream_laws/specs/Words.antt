@@ -11,7 +11,7 @@ use Rattle.image.specs.declared.elements.Kind.{Kind}
 use Rattle.image.specs.declared.elements.Kind.the-variants.{Filemark, Unreadable}
 use Rattle.image.specs.declared.header.Header.{Header}
 use Rattle.image.specs.Elements.{recordedField, kindAt}
-use Rattle.image.specs.Header.{fieldsOf}
+use Rattle.image.specs.Header.{fieldsOf, keepsHeaderRules, withRecorded}
 use Rattle.image.specs.Sameness.{IsBlock, SameElement, Alike, Outside}
 use Rattle.opcodes.specs.declared.Command.{Command}
 use Rattle.opcodes.specs.declared.Command.the-variants.{Unknown, TestUnitReady, Rewind, RequestSense, Read, Write, WriteFilemarks, Space, Inquiry, ModeSelect, ModeSense, LoadUnload, Locate, ReadPosition}
@@ -42,8 +42,8 @@ pub data Moves : Command → Type 0 where
 
 -- those of them that store
 pub data Stores : Command → Type 0 where
-  blocks : Stores Write
-  filemarks : Stores WriteFilemarks
+  stores-blocks : Stores Write
+  stores-filemarks : Stores WriteFilemarks
 
 -- the commands that store on the cartridge: 0Ah, 10h
 abbrev pub storesOn : Command → Bool
@@ -153,13 +153,36 @@ pub record GoodRead (s : List ℕ) (st : State) (n : ℕ) (buf : List ℕ) (x : 
   pub buf-length : length (x .buf) ≡ length buf
   pub buf-beyond : (i : ℕ) → bytesOf x ≤ i → getD (x .buf) i 0 ≡ getD buf i 0
 
--- x and y tell the same
-abbrev pub TellSame : Left State → Left State → Type 0
-TellSame x y =
-    (statusOf x ≡ statusOf y)
-    × (blocksOf x ≡ blocksOf y)
-    × (x .state .sense ≡ y .state .sense)
-    × (x .state .position ≡ y .state .position)
+-- all that 01 asks of a WRITE or WRITE FILEMARK of N elements, of any drive: x is what it leaves. `Holds` says what element P + j is then, and `each` how
+-- many bytes of the buffer it takes.
+pub record GoodWrite (Holds : List ℕ → ℕ → Type 0) (each : ℕ) (s : List ℕ) (st : State) (n : ℕ) (buf : List ℕ) (x : Left State) : Type 0 where
+  pub accepted : numberOf x ≡ 0
+  -- status, sense and new P go by the blocks, which are stored; "U = new P"; the bytes by the blocks
+  pub ends : WriteEnds s (st .position) n x
+  pub stored : (j : ℕ) → j < blocksOf x → Holds (x .image) j
+  pub recorded : 1 ≤ blocksOf x → fieldsOf (x .image) ≡ withRecorded (fieldsOf s) (x .state .position)
+  pub bytes : bytesOf x ≡ blocksOf x * each
+  -- the rest stays
+  pub state-kept : x .state ≡ withSense (atPlace st (x .state .position)) (x .state .sense)
+  pub image-good : keepsHeaderRules (x .image) ≡ true
+  pub image-kept : blocksOf x ≡ 0 → x .image ≡ s
+  pub elements-before : (i : ℕ) → i < st .position → SameElement (fieldsOf s) s (x .image) i
+  pub buf-kept : x .buf ≡ buf
+
+-- WRITE: block j of the buffer, as data; WRITE FILEMARK: a filemark
+abbrev pub BlocksGood : List ℕ → State → ℕ → List ℕ → Left State → Type 0
+BlocksGood s st n buf x =
+    GoodWrite (λ t j. IsRecorded t (st .position + j) (part buf (j * fieldsOf s .size) (fieldsOf s .size))) (fieldsOf s .size) s st n buf x
+
+abbrev pub MarksGood : List ℕ → State → ℕ → List ℕ → Left State → Type 0
+MarksGood s st n buf x = GoodWrite (λ t j. IsElement t (st .position + j) Filemark) 0 s st n buf x
+
+-- x and y are the same, but for what their images have at U and above
+pub record SameBelowU (x y : Left State) : Type 0 where
+  pub answer : x .answer ≡ y .answer
+  pub state : x .state ≡ y .state
+  pub buf : x .buf ≡ y .buf
+  pub images : AlikeBelowU (x .image) (y .image)
 
 -- ---- what is kept
 
