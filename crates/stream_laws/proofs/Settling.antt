@@ -288,6 +288,8 @@ module _ (Holds : List ℕ → ℕ → Type 0) (each : ℕ) (s : List ℕ) (st :
         image-good = w .0;
         image-kept = none-stored s st packet buf;
         elements-before = k .elements-before;
+        image-length = k .image-length;
+        image-beyond = k .image-beyond;
         buf-kept = k .buf-kept giving;
       }
 

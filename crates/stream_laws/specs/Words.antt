@@ -140,6 +140,31 @@ passedBeside x = if x .filemark || (x .key ≡ᵇ 3) then 1 else 0
 abbrev pub CountsData : List ℕ → ℕ → Left State → Type 0
 CountsData s p x = (k : ℕ) → k < blocksOf x → IsRecorded s (p + k) (part (x .buf) (k * fieldsOf s .size) (fieldsOf s .size))
 
+-- ---- what is kept
+
+-- byte m is none of U's four, none of the kinds of the elements moved, none of the block bytes taken
+pub record Untouched (h : Header) (st : State) (x : Left State) (m : ℕ) : Type 0 where
+  pub not-recorded : Outside recordedField 4 m
+  pub not-kind : Outside (h .kinds + st .position) (blocksOf x) m
+  pub not-block : Outside (h .blocks + st .position * h .size) (bytesOf x) m
+
+-- what a packet changes, at most
+pub record Kept (s : List ℕ) (st : State) (packet buf : List ℕ) (x : Left State) : Type 0 where
+  -- the buffer keeps its length and every byte beyond those filled, and all of them where the command gives none
+  pub buf-length : length (x .buf) ≡ length buf
+  pub buf-beyond : (i : ℕ) → bytesOf x ≤ i → getD (x .buf) i 0 ≡ getD buf i 0
+  pub buf-kept : gives (requestOf packet .command) ≡ false → x .buf ≡ buf
+  -- the image keeps its length and every byte that belongs to no element stored, and all of them where the command stores none
+  pub image-length : length (x .image) ≡ length s
+  pub image-beyond : (m : ℕ) → Untouched (fieldsOf s) st x m → getD (x .image) m 0 ≡ getD s m 0
+  pub image-kept : stores packet ≡ false → x .image ≡ s
+  -- "U = new P" where elements were stored
+  pub recorded-new : stores packet ≡ true → 1 ≤ blocksOf x → fieldsOf (x .image) .recorded ≡ x .state .position
+  -- the elements before the position are as they were
+  pub elements-before : (i : ℕ) → i < st .position → SameElement (fieldsOf s) s (x .image) i
+
+-- ---- what READ, WRITE and WRITE FILEMARK owe
+
 -- all that 01 asks of a READ of N blocks, of any drive: x is what it leaves
 pub record GoodRead (s : List ℕ) (st : State) (n : ℕ) (buf : List ℕ) (x : Left State) : Type 0 where
   pub accepted : numberOf x ≡ 0
@@ -167,6 +192,8 @@ pub record GoodWrite (Holds : List ℕ → ℕ → Type 0) (each : ℕ) (s : Lis
   pub image-good : keepsHeaderRules (x .image) ≡ true
   pub image-kept : blocksOf x ≡ 0 → x .image ≡ s
   pub elements-before : (i : ℕ) → i < st .position → SameElement (fieldsOf s) s (x .image) i
+  pub image-length : length (x .image) ≡ length s
+  pub image-beyond : (m : ℕ) → Untouched (fieldsOf s) st x m → getD (x .image) m 0 ≡ getD s m 0
   pub buf-kept : x .buf ≡ buf
 
 -- WRITE: block j of the buffer, as data; WRITE FILEMARK: a filemark
@@ -183,26 +210,3 @@ pub record SameBelowU (x y : Left State) : Type 0 where
   pub state : x .state ≡ y .state
   pub buf : x .buf ≡ y .buf
   pub images : AlikeBelowU (x .image) (y .image)
-
--- ---- what is kept
-
--- byte m is none of U's four, none of the kinds of the elements moved, none of the block bytes taken
-pub record Untouched (h : Header) (st : State) (x : Left State) (m : ℕ) : Type 0 where
-  pub not-recorded : Outside recordedField 4 m
-  pub not-kind : Outside (h .kinds + st .position) (blocksOf x) m
-  pub not-block : Outside (h .blocks + st .position * h .size) (bytesOf x) m
-
--- what a packet changes, at most
-pub record Kept (s : List ℕ) (st : State) (packet buf : List ℕ) (x : Left State) : Type 0 where
-  -- the buffer keeps its length and every byte beyond those filled, and all of them where the command gives none
-  pub buf-length : length (x .buf) ≡ length buf
-  pub buf-beyond : (i : ℕ) → bytesOf x ≤ i → getD (x .buf) i 0 ≡ getD buf i 0
-  pub buf-kept : gives (requestOf packet .command) ≡ false → x .buf ≡ buf
-  -- the image keeps its length and every byte that belongs to no element stored, and all of them where the command stores none
-  pub image-length : length (x .image) ≡ length s
-  pub image-beyond : (m : ℕ) → Untouched (fieldsOf s) st x m → getD (x .image) m 0 ≡ getD s m 0
-  pub image-kept : stores packet ≡ false → x .image ≡ s
-  -- "U = new P" where elements were stored
-  pub recorded-new : stores packet ≡ true → 1 ≤ blocksOf x → fieldsOf (x .image) .recorded ≡ x .state .position
-  -- the elements before the position are as they were
-  pub elements-before : (i : ℕ) → i < st .position → SameElement (fieldsOf s) s (x .image) i
