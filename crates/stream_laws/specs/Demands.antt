@@ -5,6 +5,7 @@ use mathlib.Core.Bool.{true}
 use mathlib.Core.List.{List}
 use mathlib.Core.Path.{_≡_}
 use lib.ListN.{replicate}
+use Rattle.numbers.specs.Outcomes.{Settles}
 use Rattle.numbers.specs.Over.{part}
 use Rattle.image.specs.declared.elements.Kind.the-variants.{Filemark}
 use Rattle.image.specs.Header.{fieldsOf, keepsHeaderRules, withRecorded}
@@ -107,8 +108,8 @@ pub record Settled : Type 0 where
   pub packet : (s : List ℕ) (st : State) (packet buf : List ℕ) (r r' : Outcome) (image image' buf' buf'' : List ℕ)
       → PacketPromise s st packet buf r image buf' → PacketPromise s st packet buf r' image' buf''
       → (r ≡ r') × (image ≡ image') × (buf' ≡ buf'')
-  pub fresh : (r r' : State) → FreshPromise r → FreshPromise r' → r ≡ r'
-  pub changed : (st r r' : State) → ChangedPromise st r → ChangedPromise st r' → r ≡ r'
+  pub fresh : Settles FreshPromise
+  pub changed : (st : State) → Settles (ChangedPromise st)
 
 -- What an accepted packet leaves is again accepted: the image keeps the header rules, with the same header but U, and the record keeps rule 3 for it.
 abbrev pub StaysGood : Type 0
