@@ -16,7 +16,8 @@ use Rattle.packet_record.specs.PacketRecord.{decodeState, encodeAnswer}
 use Rattle.tapecard.specs.PacketCalls.{packetCard, packetLeft, packetCall}
 use Rattle.pulse_record.specs.PulseRecord.{encodeTold}
 use Rattle.tapecard.specs.PulseCalls.{pulseLeft, pulseTrain, pulseTick, pulseInsert, pulseRemove, pulseWait}
-use Rattle.card_laws.specs.Promises.{PacketRefusedUntouched, UntouchedIfRefused, TrainRefusedUntouched, TickRefusedUntouched, InsertRefusedUntouched, RemoveRefusedUntouched, WaitRefusedUntouched, CountsWhole, Settled}
+use Rattle.card_laws.specs.Promises.{PacketRefusedUntouched, UntouchedIfRefused, TrainRefusedUntouched, TickRefusedUntouched}
+use Rattle.card_laws.specs.Promises.{InsertRefusedUntouched, RemoveRefusedUntouched, WaitRefusedUntouched, CountsWhole, Settled}
 use Rattle.card_laws.proofs.PacketFollowing.{blocks-whole, bytes-whole}
 use Rattle.card_laws.proofs.PulseFollowing.{ticks-whole}
 

@@ -1,4 +1,5 @@
--- What is laid on the tape and what is recorded of it: laying keeps the header, element i reads back, the others keep kind and bytes; recording keeps all but U.
+-- What is laid on the tape and what is recorded of it: laying keeps the header, element i reads back, the others keep kind and bytes;
+-- recording keeps all but U.
 -- Assumes nothing.
 use mathlib.Core.Path.{_≡_, refl, sym, ap, _∙_}
 use mathlib.Core.List.{List}
@@ -119,7 +120,8 @@ module _ (s : List ℕ) (h : Header) (good : headerOf s ≡ Good h) (i : ℕ) (w
     over-kept : (m : ℕ) → OffBlock h i m → getD laid m 0 ≡ getD s m 0
     over-kept m o =
         let r = room in
-        ⊎-elim (λ l. over-below s new (h .blocks + i * h .size) m (omega arith) l) (λ l. over-above s new (h .blocks + i * h .size) m (omega arith) (omega arith)) o
+        let a = h .blocks + i * h .size in
+        ⊎-elim (λ l. over-below s new a m (omega arith) l) (λ l. over-above s new a m (omega arith) (omega arith)) o
 
     off-block : (j x : ℕ) → x < h .size → (j < i) ⊎ (i < j) → OffBlock h i (h .blocks + j * h .size + x)
     off-block j x b o =
@@ -137,7 +139,8 @@ module _ (s : List ℕ) (h : Header) (good : headerOf s ≡ Good h) (i : ℕ) (w
           kinds = λ j b n. ap kindOf (over-kept (h .kinds + j) (inl (omega arith)));
           bytes = λ j b n.
               let m = mul-le-mul-right (h .size) b in
-              part-same laid s (h .blocks + j * h .size) (h .size) (omega arith) q (λ x c. over-kept (h .blocks + j * h .size + x) (off-block j x c (apart j i n)));
+              let a = h .blocks + j * h .size in
+              part-same laid s a (h .size) (omega arith) q (λ x c. over-kept (a + x) (off-block j x c (apart j i n)));
           apart = over-kept;
         }
 
@@ -287,4 +290,5 @@ module _ (s : List ℕ) (h : Header) (good : headerOf s ≡ Good h) (p place : �
       let g = sound s h good in
       let q = record-length s p place in
       let m = mul-le-mul-right (h .size) l in
-      part-same (recordTo s p place) s (h .blocks + j * h .size) (h .size) (omega arith) q (λ x b. record-apart s p place (h .blocks + j * h .size + x) (inr (omega arith)))
+      let a = h .blocks + j * h .size in
+      part-same (recordTo s p place) s a (h .size) (omega arith) q (λ x b. record-apart s p place (a + x) (inr (omega arith)))

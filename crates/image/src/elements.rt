@@ -61,7 +61,11 @@ pub fn lay_block(
     src: &[u8],
     off: usize,
 )
-    requires { ⌜ ((size ≤ 1024) × (i < 65535)) × ((kinds + i < blocks) × ((blocks + (i + 1) * size ≤ length (now image)) × (off + size ≤ length (now src)))) ⌝ }
+    requires { ⌜ size ≤ 1024 ⌝ }
+    requires { ⌜ i < 65535 ⌝ }
+    requires { ⌜ kinds + i < blocks ⌝ }
+    requires { ⌜ blocks + (i + 1) * size ≤ length (now image) ⌝ }
+    requires { ⌜ off + size ≤ length (now src) ⌝ }
     ensures { λ _. ⌜ now (image .exit) ≡ layBlock (now (image .entry)) size kinds blocks i (part (now (src .entry)) off size) ⌝ }
 {
     let from = blocks + span(i, size);

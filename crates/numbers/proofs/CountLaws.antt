@@ -30,12 +30,14 @@ length-put-count s p (suc (suc k)) v = simp length-set (length-put-count s p (su
 pub put-count-below : (s : List ℕ) (p k v i : ℕ) → i < p → getD (putCount s p k v) i 0 ≡ getD s i 0
 put-count-below s p zero v i h = refl
 put-count-below s p (suc zero) v i h = getD-set-other s p i _ 0 (λ e. omega arith)
-put-count-below s p (suc (suc k)) v i h = getD-set-other (putCount s p (suc k) (v / 256)) (p + suc k) i (v % 256) 0 (λ e. omega arith) ∙ put-count-below s p (suc k) (v / 256) i h
+put-count-below s p (suc (suc k)) v i h =
+    getD-set-other (putCount s p (suc k) (v / 256)) (p + suc k) i (v % 256) 0 (λ e. omega arith) ∙ put-count-below s p (suc k) (v / 256) i h
 
 pub put-count-above : (s : List ℕ) (p k v i : ℕ) → p + k ≤ i → getD (putCount s p k v) i 0 ≡ getD s i 0
 put-count-above s p zero v i h = refl
 put-count-above s p (suc zero) v i h = getD-set-other s p i _ 0 (λ e. omega arith)
-put-count-above s p (suc (suc k)) v i h = getD-set-other (putCount s p (suc k) (v / 256)) (p + suc k) i (v % 256) 0 (λ e. omega arith) ∙ put-count-above s p (suc k) (v / 256) i (omega arith)
+put-count-above s p (suc (suc k)) v i h =
+    getD-set-other (putCount s p (suc k) (v / 256)) (p + suc k) i (v % 256) 0 (λ e. omega arith) ∙ put-count-above s p (suc k) (v / 256) i (omega arith)
 
 -- what was put is read back
 pub count-read-back : (s : List ℕ) (p k v : ℕ) → p + k ≤ length s → v < 256 ^ k → countAt (putCount s p k v) p k ≡ v
@@ -44,6 +46,7 @@ count-read-back s p (suc zero) v h b = getD-set-same s p _ 0 (omega arith) ∙ o
 count-read-back s p (suc (suc k)) v h b =
     let l = length-put-count s p (suc k) (v / 256) in
     let e = getD-set-same (putCount s p (suc k) (v / 256)) (p + suc k) (v % 256) 0 (omega arith) in
-    let q = count-by-bytes (putCount s p (suc (suc k)) v) (putCount s p (suc k) (v / 256)) p (suc k) (λ i a c. getD-set-other (putCount s p (suc k) (v / 256)) (p + suc k) i (v % 256) 0 (λ x. omega arith)) in
+    let low = putCount s p (suc k) (v / 256) in
+    let q = count-by-bytes (putCount s p (suc (suc k)) v) low p (suc k) (λ i a c. getD-set-other low (p + suc k) i (v % 256) 0 (λ x. omega arith)) in
     let w = count-read-back s p (suc k) (v / 256) (omega arith) (omega arith) in
     omega (arith, e, q, w)

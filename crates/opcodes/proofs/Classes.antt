@@ -8,7 +8,8 @@ use lib.Dec.{T, eqb, eqb→eq}
 use lib.ListN.{length, getD}
 use Rattle.numbers.proofs.TableRule.{every, at}
 use Rattle.opcodes.specs.declared.Command.{Command}
-use Rattle.opcodes.specs.declared.Command.the-variants.{Unknown, TestUnitReady, Rewind, RequestSense, Read, Write, WriteFilemarks, Space, Inquiry, ModeSelect, ModeSense, LoadUnload, Locate, ReadPosition}
+use Rattle.opcodes.specs.declared.Command.the-variants.{Unknown, TestUnitReady, Rewind, RequestSense, Read, Write, WriteFilemarks, Space}
+use Rattle.opcodes.specs.declared.Command.the-variants.{Inquiry, ModeSelect, ModeSense, LoadUnload, Locate, ReadPosition}
 use Rattle.opcodes.specs.Commands.{Supported, lookUp, commandOfClass}
 
 abbrev pub classOf : Command → ℕ

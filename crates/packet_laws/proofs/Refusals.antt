@@ -14,7 +14,8 @@ use Rattle.packet_parts.specs.Answers.{Left, notTwelveBytes, shortBuffer}
 use Rattle.packet_parts.specs.Requests.{packetLength}
 use Rattle.packet_parts.specs.Shell.{Device, refuses, carriedOut, foundBy, answersTo}
 use Rattle.packet_parts.proofs.VerdictLaws.{found-early, found-short, found-clear, works-clear}
-use Rattle.packet_laws.specs.Words.{numberOf, Refusal, Due, not-twelve, bad-image, bad-record, too-short, accepted, roomFor, Unended, Passes, Begins, Working}
+use Rattle.packet_laws.specs.Words.{numberOf, Refusal, Due, not-twelve, bad-image, bad-record, too-short, accepted, roomFor, Unended, Passes}
+use Rattle.packet_laws.specs.Words.{Begins, Working}
 use Rattle.packet_laws.specs.Promises.{CutPacket, RefusedKeeps, NumberExactly, BeginsExactly}
 use Rattle.packet_laws.proofs.Ways.{FoundFor, found-for, carried, Way, cut, broken, unruly, short, ends-early, works, way, step-passed}
 

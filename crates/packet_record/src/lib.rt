@@ -5,6 +5,8 @@ ghost use lib.ListN.{length};
 ghost use Rattle.packet_record.specs.PacketRecord.{attentionOf, attentionByte, decodeState, encodeState, encodeAnswer};
 use numbers::counts::count2;
 use numbers::counts::count4;
+use numbers::counts::put_count2;
+use numbers::counts::put_count4;
 use numbers::flags::is_set;
 use numbers::flags::weight_of;
 use packet_parts::state::Answer;
@@ -58,65 +60,29 @@ pub fn decode_state(bytes: &[u8]) -> State
 pub fn encode_state(state: State) -> [u8; 16]
     ensures { λ r. ⌜ r ≡ encodeState state ⌝ }
 {
-    let p = state.position;
-    let p1 = p / 256;
-    let p2 = p1 / 256;
-    let p3 = p2 / 256;
     let attention = state.attention;
-    let v = state.speed;
-    let v1 = v / 256;
     let sense = state.sense;
-    let i = sense.information;
-    let i1 = i / 256;
-    let i2 = i1 / 256;
-    let i3 = i2 / 256;
-    [
-        (p3 % 256) as u8,
-        (p2 % 256) as u8,
-        (p1 % 256) as u8,
-        (p % 256) as u8,
-        weight_of(state.loaded, 1),
-        attention_byte(attention),
-        (v1 % 256) as u8,
-        (v % 256) as u8,
-        sense.key,
-        sense.asc,
-        sense.ascq,
-        weight_of(sense.valid, 1) + weight_of(sense.eom, 2) + weight_of(sense.filemark, 4),
-        (i3 % 256) as u8,
-        (i2 % 256) as u8,
-        (i1 % 256) as u8,
-        (i % 256) as u8,
-    ]
+    let flags = weight_of(sense.valid, 1) + weight_of(sense.eom, 2) + weight_of(sense.filemark, 4);
+    let mut bytes = [0; 16];
+    put_count4(&mut bytes, 0, state.position);
+    bytes[4] = weight_of(state.loaded, 1);
+    bytes[5] = attention_byte(attention);
+    put_count2(&mut bytes, 6, state.speed as usize);
+    bytes[8] = sense.key;
+    bytes[9] = sense.asc;
+    bytes[10] = sense.ascq;
+    bytes[11] = flags;
+    put_count4(&mut bytes, 12, sense.information);
+    bytes
 }
 
 pub fn encode_answer(answer: Answer) -> [u8; 16]
     ensures { λ r. ⌜ r ≡ encodeAnswer answer ⌝ }
 {
-    let n = answer.blocks;
-    let n1 = n / 256;
-    let n2 = n1 / 256;
-    let n3 = n2 / 256;
-    let b = answer.bytes;
-    let b1 = b / 256;
-    let b2 = b1 / 256;
-    let b3 = b2 / 256;
-    [
-        answer.number,
-        answer.status,
-        0,
-        0,
-        (n3 % 256) as u8,
-        (n2 % 256) as u8,
-        (n1 % 256) as u8,
-        (n % 256) as u8,
-        (b3 % 256) as u8,
-        (b2 % 256) as u8,
-        (b1 % 256) as u8,
-        (b % 256) as u8,
-        0,
-        0,
-        0,
-        0,
-    ]
+    let mut bytes = [0; 16];
+    bytes[0] = answer.number;
+    bytes[1] = answer.status;
+    put_count4(&mut bytes, 4, answer.blocks);
+    put_count4(&mut bytes, 8, answer.bytes);
+    bytes
 }

@@ -157,7 +157,8 @@ read d i y o a =
     q = paid errorItems x (t .0) xy
 
 -- ---- the 46 trains, to a drive that stands and waits for no argument
-recover : (before d : Drive) → before .fault ≡ d .fault → Idle d → isReady d ≡ true → owed (d .report) ≤ closing → Recovered before d (afterTrains d recoveryTrains)
+recover : (before d : Drive) → before .fault ≡ d .fault → Idle d → isReady d ≡ true → owed (d .report) ≤ closing →
+    Recovered before d (afterTrains d recoveryTrains)
 recover before d f i y l =
     record {
       answered = w .numbers;

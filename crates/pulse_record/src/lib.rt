@@ -7,6 +7,7 @@ ghost use Rattle.pulse_record.specs.PulseRecord.{motionOf, motionByte, u
 ghost use Rattle.pulse_record.specs.PulseRecord.{cartridgeOf, cartridgeByte, describedCartridge, describedPlace, marksOf, marksByte};
 ghost use Rattle.pulse_record.specs.PulseRecord.{cartridgeIn, headIn, reportIn, waitingIn, decodeDrive, encodeDrive, encodeTold};
 use numbers::counts::count2;
+use numbers::counts::put_count4;
 use numbers::flags::is_set;
 use numbers::flags::weight_of;
 use pulse::Drive;
@@ -307,17 +308,9 @@ pub fn encode_drive(d: Drive) -> [u8; 32]
 pub fn encode_told(number: u8, level: bool, ticks: u32) -> [u8; 8]
     ensures { λ r. ⌜ r ≡ encodeTold number level ticks ⌝ }
 {
-    let t1 = ticks / 256;
-    let t2 = t1 / 256;
-    let t3 = t2 / 256;
-    [
-        number,
-        weight_of(level, 1),
-        0,
-        0,
-        (t3 % 256) as u8,
-        (t2 % 256) as u8,
-        (t1 % 256) as u8,
-        (ticks % 256) as u8,
-    ]
+    let mut bytes = [0; 8];
+    bytes[0] = number;
+    bytes[1] = weight_of(level, 1);
+    put_count4(&mut bytes, 4, ticks as usize);
+    bytes
 }

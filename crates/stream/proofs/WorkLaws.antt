@@ -7,7 +7,8 @@ use Prim.Native.Nat.{ℕ, _≤_}
 use Rattle.image.specs.declared.header.Header.{Header}
 use Rattle.image.specs.Elements.{recordTo}
 use Rattle.opcodes.specs.declared.Command.{Command}
-use Rattle.opcodes.specs.declared.Command.the-variants.{Unknown, TestUnitReady, Rewind, RequestSense, Read, Write, WriteFilemarks, Space, Inquiry, ModeSelect, ModeSense, LoadUnload, Locate, ReadPosition}
+use Rattle.opcodes.specs.declared.Command.the-variants.{Unknown, TestUnitReady, Rewind, RequestSense, Read, Write, WriteFilemarks, Space, Inquiry}
+use Rattle.opcodes.specs.declared.Command.the-variants.{ModeSelect, ModeSense, LoadUnload, Locate, ReadPosition}
 use Rattle.transfer.specs.declared.Moved.{Moved}
 use Rattle.transfer.specs.Reading.{Reading, reads, readFrom}
 use Rattle.transfer.specs.Writing.{Writing, writes, writeFrom, markFrom}
@@ -25,7 +26,8 @@ use Rattle.packet_parts.specs.Requests.{loadBit}
 use Rattle.packet_parts.specs.States.{atPlace}
 use Rattle.stream_parts.specs.Replies.{streamInquiry, hasPage, modePage, modeBytes, positionBytes}
 use Rattle.stream_parts.specs.Requests.{spaceCode}
-use Rattle.stream.specs.Work.{endingOf, moves, readEnds, readWork, writeEnding, writeEnds, writeWork, markWork, spaceWork, selectWork, loadWork, locateWork, workOf}
+use Rattle.stream.specs.Work.{endingOf, moves, readEnds, readWork, writeEnding, writeEnds, writeWork, markWork, spaceWork, selectWork, loadWork}
+use Rattle.stream.specs.Work.{locateWork, workOf}
 
 -- ---- READ, WRITE, WRITE FILEMARK
 
@@ -119,7 +121,8 @@ module _ (k : Command) (s : List ℕ) (h : Header) (st : State) (q : Request) (b
     unfolding workOf
     was-marked e p = rw e p
 
-    pub was-asked : k ≡ Inquiry → r ≡ replyEnds streamInquiry (q .length) st → new ≡ repliedInto streamInquiry (q .length) buf → done r s new ≡ workOf k s h st q buf
+    pub was-asked : k ≡ Inquiry → r ≡ replyEnds streamInquiry (q .length) st → new ≡ repliedInto streamInquiry (q .length) buf
+        → done r s new ≡ workOf k s h st q buf
     unfolding workOf
     was-asked e p n = rw (e, p, n)
 

@@ -1,16 +1,20 @@
 -- The work of each command, once nothing before it ended the packet.
 -- Assumes nothing.
-use Prim.Native.Nat.{ℕ, _+_, _*_, _-_}
+use Prim.Native.Nat.{ℕ, _+_, _*_, _-_, _^_, _<_, _≤_}
 use mathlib.Core.Bool.{Bool, not, _&&_}
 use mathlib.Core.List.{List}
+use mathlib.Core.Path.{_≡_}
 use lib.ListN.{getD}
 use Rattle.numbers.specs.Choice.{if_then_else_, _≡ᵇ_, _<ᵇ_, _≤ᵇ_}
 use Rattle.numbers.specs.Counts.{countAt}
 use Rattle.numbers.specs.Member.{isIn}
 use Rattle.image.specs.declared.header.Header.{Header}
+use Rattle.image.specs.declared.header.Judged.the-variants.{Good as GoodHeader}
 use Rattle.image.specs.Elements.{recordTo}
+use Rattle.image.specs.Header.{headerOf}
 use Rattle.opcodes.specs.declared.Command.{Command}
-use Rattle.opcodes.specs.declared.Command.the-variants.{Unknown, TestUnitReady, Rewind, RequestSense, Read, Write, WriteFilemarks, Space, Inquiry, ModeSelect, ModeSense, LoadUnload, Locate, ReadPosition}
+use Rattle.opcodes.specs.declared.Command.the-variants.{Unknown, TestUnitReady, Rewind, RequestSense, Read, Write, WriteFilemarks, Space, Inquiry}
+use Rattle.opcodes.specs.declared.Command.the-variants.{ModeSelect, ModeSense, LoadUnload, Locate, ReadPosition}
 use Rattle.transfer.specs.declared.Moved.{Moved}
 use Rattle.transfer.specs.declared.Stop.{Stop}
 use Rattle.transfer.specs.declared.Stop.the-variants.{Full, AtFilemark, AtBadBlock, AtEnd, AtBeginning}
@@ -28,7 +32,14 @@ use Rattle.packet_parts.specs.Requests.{loadBit}
 use Rattle.stream_parts.specs.Replies.{streamInquiry, modeBytes, positionBytes, positionLength, pastWarning}
 use Rattle.stream_parts.specs.Requests.{spaceCode, overBlocks, toEndOfData, isBack, magnitude}
 use Rattle.packet_parts.specs.Senses.{filemarkDetected, unreadableBlock, endOfData, volumeOverflow, earlyWarning, beginningOfTape, beyondData, wrongList}
-use Rattle.packet_parts.specs.States.{speeds, atPlace, withLoaded, withSpeed}
+use Rattle.packet_parts.specs.States.{speeds, highestKey, atPlace, withLoaded, withSpeed}
+
+-- what a packet has passed when it comes to its work: the image has the header h, the record keeps rule 3, and a count has three bytes
+pub record Passed (s : List ℕ) (h : Header) (st : State) (q : Request) : Type 0 where
+  pub header : headerOf s ≡ GoodHeader h
+  pub place : st .position ≤ h .recorded
+  pub key : st .sense .key ≤ highestKey
+  pub count : q .count < 2 ^ 24
 
 -- ---- 08h READ
 

@@ -2,11 +2,9 @@
 pub mod work; // work.rt: one function a command
 
 ghost use mathlib.Core.Path.{_≡_};
-ghost use Prim.Native.Nat.{_^_, _<_, _≤_};
-ghost use Rattle.image.specs.Header.{headerOf};
-ghost use Rattle.image.specs.declared.header.Judged.the-variants.{Good};
 ghost use Rattle.packet_parts.specs.Answers.{done};
 ghost use Rattle.packet_parts.specs.Shell.{decided};
+ghost use Rattle.stream.specs.Work.{Passed};
 ghost use Rattle.stream.specs.Packet.{streamDevice, FreshPromise, ChangedPromise, PacketPromise};
 use crate::work::work;
 use image::header::Header;
@@ -45,7 +43,7 @@ pub fn changed(state: State) -> State
 }
 
 fn decide(image: &mut [u8], h: Header, state: State, q: Request, buf: &mut [u8]) -> Outcome
-    requires { ⌜ ((headerOf (now image) ≡ Good h) × ((state .position ≤ h .recorded) × (state .sense .key ≤ 15))) × (q .count < 2 ^ 24) ⌝ }
+    requires { ⌜ Passed (now image) h state q ⌝ }
     ensures { λ r. ⌜ done r (now (image .exit)) (now (buf .exit)) ≡ decided streamDevice (now (image .entry)) h state q (now (buf .entry)) ⌝ }
 {
     let found = verdict(h, state, q, buf.len());

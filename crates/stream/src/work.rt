@@ -8,7 +8,8 @@ ghost use Rattle.packet_parts.specs.Answers.{done};
 ghost use Rattle.stream_parts.specs.Checks.{askedBy};
 ghost use Rattle.packet_parts.specs.Replies.{senseBytes, replyEnds, repliedInto};
 ghost use Rattle.stream_parts.specs.Replies.{streamInquiry, modeLength, modeBytes, positionBytes};
-ghost use Rattle.stream.specs.Work.{endingOf, moves, readWork, writeEnding, writeWork, markWork, spaceRun, spaceWork, goodList, selectWork, loadWork, locateWork, workOf};
+ghost use Rattle.stream.specs.Work.{Passed, endingOf, moves, readWork, writeEnding, writeWork, markWork, spaceRun, spaceWork, goodList, selectWork};
+ghost use Rattle.stream.specs.Work.{loadWork, locateWork, workOf};
 use image::elements::record_to;
 use image::header::Header;
 use numbers::counts::count2;
@@ -72,7 +73,9 @@ fn ending_of(stop: Stop, left: usize) -> Ending
 
 // Blocks and bytes of those asked for that a run moved.
 fn end_moved(state: State, asked: usize, size: usize, moved: Moved, ending: Ending) -> Outcome
-    requires { ⌜ ((asked < 2 ^ 24) × (size ≤ 1024)) × (moved .left ≤ asked) ⌝ }
+    requires { ⌜ asked < 2 ^ 24 ⌝ }
+    requires { ⌜ size ≤ 1024 ⌝ }
+    requires { ⌜ moved .left ≤ asked ⌝ }
     ensures { λ r. ⌜ r ≡ moves state asked size moved ending ⌝ }
 {
     let blocks = asked - moved.left;
@@ -85,7 +88,10 @@ fn end_moved(state: State, asked: usize, size: usize, moved: Moved, ending: Endi
 }
 
 fn read(image: &[u8], h: Header, state: State, asked: usize, buf: &mut [u8]) -> Outcome
-    requires { ⌜ (headerOf (now image) ≡ Good h) × ((state .position ≤ h .recorded) × ((asked < 2 ^ 24) × (asked * h .size ≤ length (now buf)))) ⌝ }
+    requires { ⌜ headerOf (now image) ≡ Good h ⌝ }
+    requires { ⌜ state .position ≤ h .recorded ⌝ }
+    requires { ⌜ asked < 2 ^ 24 ⌝ }
+    requires { ⌜ asked * h .size ≤ length (now buf) ⌝ }
     ensures { λ r. ⌜ done r (now (image .entry)) (now (buf .exit)) ≡ readWork (now (image .entry)) h state asked (now (buf .entry)) ⌝ }
 {
     let p = state.position;
@@ -113,7 +119,10 @@ fn write_ending(h: Header, asked: usize, moved: Moved) -> Ending
 }
 
 fn write(image: &mut [u8], h: Header, state: State, asked: usize, buf: &[u8]) -> Outcome
-    requires { ⌜ (headerOf (now image) ≡ Good h) × ((state .position ≤ h .recorded) × ((asked < 2 ^ 24) × (asked * h .size ≤ length (now buf)))) ⌝ }
+    requires { ⌜ headerOf (now image) ≡ Good h ⌝ }
+    requires { ⌜ state .position ≤ h .recorded ⌝ }
+    requires { ⌜ asked < 2 ^ 24 ⌝ }
+    requires { ⌜ asked * h .size ≤ length (now buf) ⌝ }
     ensures { λ r. ⌜ done r (now (image .exit)) (now (buf .entry)) ≡ writeWork (now (image .entry)) h state asked (now (buf .entry)) ⌝ }
 {
     let p = state.position;
@@ -126,7 +135,9 @@ fn write(image: &mut [u8], h: Header, state: State, asked: usize, buf: &[u8]) ->
 
 // 10h takes no bytes of the buffer; it is lent so that the promise can say that it stays.
 fn write_marks(image: &mut [u8], h: Header, state: State, asked: usize, buf: &[u8]) -> Outcome
-    requires { ⌜ (headerOf (now image) ≡ Good h) × ((state .position ≤ h .recorded) × (asked < 2 ^ 24)) ⌝ }
+    requires { ⌜ headerOf (now image) ≡ Good h ⌝ }
+    requires { ⌜ state .position ≤ h .recorded ⌝ }
+    requires { ⌜ asked < 2 ^ 24 ⌝ }
     ensures { λ r. ⌜ done r (now (image .exit)) (now (buf .entry)) ≡ markWork (now (image .entry)) h state asked (now (buf .entry)) ⌝ }
 {
     let p = state.position;
@@ -137,7 +148,9 @@ fn write_marks(image: &mut [u8], h: Header, state: State, asked: usize, buf: &[u
 }
 
 fn space_run(image: &[u8], h: Header, p: usize, code: u8, count: usize) -> Moved
-    requires { ⌜ (headerOf (now image) ≡ Good h) × ((p ≤ h .recorded) × (count < 2 ^ 24)) ⌝ }
+    requires { ⌜ headerOf (now image) ≡ Good h ⌝ }
+    requires { ⌜ p ≤ h .recorded ⌝ }
+    requires { ⌜ count < 2 ^ 24 ⌝ }
     ensures { λ r. ⌜ r ≡ spaceRun (now (image .entry)) h p code count ⌝ }
 {
     let kinds = h.kinds;
@@ -158,7 +171,9 @@ fn space_run(image: &[u8], h: Header, p: usize, code: u8, count: usize) -> Moved
 }
 
 fn space(image: &[u8], h: Header, state: State, code: u8, count: usize) -> Outcome
-    requires { ⌜ (headerOf (now image) ≡ Good h) × ((state .position ≤ h .recorded) × (count < 2 ^ 24)) ⌝ }
+    requires { ⌜ headerOf (now image) ≡ Good h ⌝ }
+    requires { ⌜ state .position ≤ h .recorded ⌝ }
+    requires { ⌜ count < 2 ^ 24 ⌝ }
     ensures { λ r. ⌜ r ≡ spaceWork (now (image .entry)) h state code count ⌝ }
 {
     let to_end = code == TO_END_OF_DATA;
@@ -174,7 +189,8 @@ fn space(image: &[u8], h: Header, state: State, code: u8, count: usize) -> Outco
 
 fn request_sense(state: State, asked: u8, buf: &mut [u8]) -> Outcome
     requires { ⌜ (state .sense .key ≤ 15) × (min asked 20 ≤ length (now buf)) ⌝ }
-    ensures { λ r. ⌜ (r ≡ replyEnds (senseBytes (state .sense)) asked state) × (now (buf .exit) ≡ repliedInto (senseBytes (state .sense)) asked (now (buf .entry))) ⌝ }
+    ensures { λ r. ⌜ r ≡ replyEnds (senseBytes (state .sense)) asked state ⌝ }
+    ensures { λ _. ⌜ now (buf .exit) ≡ repliedInto (senseBytes (state .sense)) asked (now (buf .entry)) ⌝ }
 {
     let sense = state.sense;
     let bytes = sense_bytes(sense);
@@ -186,7 +202,8 @@ const SEQUENTIAL: u8 = 0x01;
 
 fn inquiry(state: State, asked: u8, buf: &mut [u8]) -> Outcome
     requires { ⌜ min asked 36 ≤ length (now buf) ⌝ }
-    ensures { λ r. ⌜ (r ≡ replyEnds streamInquiry asked state) × (now (buf .exit) ≡ repliedInto streamInquiry asked (now (buf .entry))) ⌝ }
+    ensures { λ r. ⌜ r ≡ replyEnds streamInquiry asked state ⌝ }
+    ensures { λ _. ⌜ now (buf .exit) ≡ repliedInto streamInquiry asked (now (buf .entry)) ⌝ }
 {
     let bytes = inquiry_bytes(SEQUENTIAL);
     reply(&bytes, asked as usize, state, buf)
@@ -194,7 +211,8 @@ fn inquiry(state: State, asked: u8, buf: &mut [u8]) -> Outcome
 
 fn mode_sense(h: Header, state: State, q: Request, buf: &mut [u8]) -> Outcome
     requires { ⌜ min (q .length) (modeLength q) ≤ length (now buf) ⌝ }
-    ensures { λ r. ⌜ (r ≡ replyEnds (modeBytes h state q) (q .length) state) × (now (buf .exit) ≡ repliedInto (modeBytes h state q) (q .length) (now (buf .entry))) ⌝ }
+    ensures { λ r. ⌜ r ≡ replyEnds (modeBytes h state q) (q .length) state ⌝ }
+    ensures { λ _. ⌜ now (buf .exit) ≡ repliedInto (modeBytes h state q) (q .length) (now (buf .entry)) ⌝ }
 {
     let asked = q.length as usize;
     let whole = q.page % 64 == DEVICE_PAGE;
@@ -208,7 +226,8 @@ fn mode_sense(h: Header, state: State, q: Request, buf: &mut [u8]) -> Outcome
 
 fn read_position(h: Header, state: State, buf: &mut [u8]) -> Outcome
     requires { ⌜ (h .warning ≤ h .capacity) × (20 ≤ length (now buf)) ⌝ }
-    ensures { λ r. ⌜ (r ≡ replyEnds (positionBytes h state) 20 state) × (now (buf .exit) ≡ repliedInto (positionBytes h state) 20 (now (buf .entry))) ⌝ }
+    ensures { λ r. ⌜ r ≡ replyEnds (positionBytes h state) 20 state ⌝ }
+    ensures { λ _. ⌜ now (buf .exit) ≡ repliedInto (positionBytes h state) 20 (now (buf .entry)) ⌝ }
 {
     let bytes = position_bytes(h, state);
     reply(&bytes, POSITION_LENGTH, state, buf)
@@ -264,7 +283,8 @@ fn locate(h: Header, state: State, target: usize) -> Outcome
 }
 
 pub fn work(image: &mut [u8], h: Header, state: State, q: Request, buf: &mut [u8]) -> Outcome
-    requires { ⌜ ((headerOf (now image) ≡ Good h) × ((state .position ≤ h .recorded) × (state .sense .key ≤ 15))) × ((q .count < 2 ^ 24) × (askedBy (q .command) h q .needed ≤ length (now buf))) ⌝ }
+    requires { ⌜ Passed (now image) h state q ⌝ }
+    requires { ⌜ askedBy (q .command) h q .needed ≤ length (now buf) ⌝ }
     ensures { λ r. ⌜ done r (now (image .exit)) (now (buf .exit)) ≡ workOf (q .command) (now (image .entry)) h state q (now (buf .entry)) ⌝ }
 {
     let command = q.command;

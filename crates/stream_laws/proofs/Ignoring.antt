@@ -17,9 +17,11 @@ use Rattle.image.proofs.HeaderLaws.{fields-are, keeps-of, broken-of, good-heade
 use Rattle.image.specs.Sameness.{ReadsSame}
 use Rattle.image.proofs.StoreLaws.{mark-laid, after-either, record-header, record-kind, record-bytes}
 use Rattle.opcodes.specs.declared.Command.{Command}
-use Rattle.opcodes.specs.declared.Command.the-variants.{Unknown, TestUnitReady, Rewind, RequestSense, Read, Write, WriteFilemarks, Space, Inquiry, ModeSelect, ModeSense, LoadUnload, Locate, ReadPosition}
+use Rattle.opcodes.specs.declared.Command.the-variants.{Unknown, TestUnitReady, Rewind, RequestSense, Read, Write, WriteFilemarks, Space, Inquiry}
+use Rattle.opcodes.specs.declared.Command.the-variants.{ModeSelect, ModeSense, LoadUnload, Locate, ReadPosition}
 use Rattle.transfer.proofs.LaidLaws.{block-of}
-use Rattle.transfer.proofs.SameLaws.{Same, of-alike, LaidSame, laid-same, mark-same, block-same, read-same, blocks-on-same, blocks-back-same, marks-on-same, marks-back-same}
+use Rattle.transfer.proofs.SameLaws.{Same, of-alike, LaidSame, laid-same, mark-same, block-same, read-same, blocks-on-same, blocks-back-same}
+use Rattle.transfer.proofs.SameLaws.{marks-on-same, marks-back-same}
 use Rattle.transfer.specs.Writing.{Writing}
 use Rattle.packet_parts.specs.declared.requests.Request.{Request}
 use Rattle.packet_parts.specs.declared.state.Outcome.{Outcome}
@@ -90,10 +92,12 @@ module _ (s t : List ℕ) (alike : AlikeBelowU s t) (st : State) where
     below : (i : ℕ) → i < h .recorded → ReadsSame h s t i
     below i l = same .elements i (inl l)
 
-    wrote : (size : ℕ) (X Y : Writing) → LaidSame h (h .recorded) X Y → AnsweredSame (writeEnds h st (q .count) size buf X) (writeEnds h st (q .count) size buf Y)
+    wrote : (size : ℕ) (X Y : Writing) → LaidSame h (h .recorded) X Y
+        → AnsweredSame (writeEnds h st (q .count) size buf X) (writeEnds h st (q .count) size buf Y)
     unfolding writeEnds
     wrote size X Y a =
-        record { answer = rw (a .moved); state = rw (a .moved); buf = refl; images = rw (a .moved) (recorded-same h (st .position) (X .moved .place) (X .image) (Y .image) (a .images) (a .reached)) }
+        let i = recorded-same h (st .position) (X .moved .place) (X .image) (Y .image) (a .images) (a .reached) in
+        record { answer = rw (a .moved); state = rw (a .moved); buf = refl; images = rw (a .moved) i }
 
     space-same : (code n : ℕ) → spaceRun t h (st .position) code n ≡ spaceRun s h (st .position) code n
     unfolding spaceRun
@@ -112,8 +116,14 @@ module _ (s t : List ℕ) (alike : AlikeBelowU s t) (st : State) where
     work-same Rewind l = looked _ _
     work-same RequestSense l = looked _ _
     work-same Read l = rw (read-same h (h .recorded) s t below (q .count) 0 (st .position) buf) (looked _ _)
-    work-same Write l = wrote (h .size) _ _ (laid-same h (h .recorded) full _ (h .size) (length buf) (block-of h buf) (block-same h (h .recorded) full buf) (q .count) 0 (st .position) s t same inside (omega arith))
-    work-same WriteFilemarks l = wrote 0 _ _ (laid-same h (h .recorded) full _ 0 0 (λ off p s g c r. mark-laid s h g p c) (mark-same h (h .recorded) full) (q .count) 0 (st .position) s t same inside (omega arith))
+    work-same Write l =
+        let here = block-same h (h .recorded) full buf in
+        wrote (h .size) _ _
+        (laid-same h (h .recorded) full _ (h .size) (length buf) (block-of h buf) here (q .count) 0 (st .position) s t same inside (omega arith))
+    work-same WriteFilemarks l =
+        let here = mark-same h (h .recorded) full in
+        wrote 0 _ _
+        (laid-same h (h .recorded) full _ 0 0 (λ off p s g c r. mark-laid s h g p c) here (q .count) 0 (st .position) s t same inside (omega arith))
     work-same Space l = rw (space-same (spaceCode q) (q .count)) (looked _ _)
     work-same Inquiry l = looked _ _
     work-same ModeSelect l = looked _ _
@@ -157,7 +167,8 @@ module _ (s t : List ℕ) (alike : AlikeBelowU s t) (st : State) where
       by-rules false g r = looked _ _
 
       by : (a b : Bool) → keepsHeaderRules s ≡ b
-          → AnsweredSame (after packet buf s (fieldsOf s) a b (keepsRecordRules (fieldsOf s .recorded) st)) (after packet buf t (fieldsOf t) a b (keepsRecordRules (fieldsOf t .recorded) st))
+          → AnsweredSame (after packet buf s (fieldsOf s) a b (keepsRecordRules (fieldsOf s .recorded) st))
+          (after packet buf t (fieldsOf t) a b (keepsRecordRules (fieldsOf t .recorded) st))
       by false b e = looked _ _
       by true false e = looked _ _
       by true true e = rw (same-fields e) (by-rules (keepsRecordRules (fieldsOf s .recorded) st) e refl)

@@ -20,9 +20,11 @@ use Rattle.image.specs.declared.header.Judged.the-variants.{Good as GoodHeader}
 use Rattle.image.specs.Header.{fieldsOf, keepsHeaderRules, headerOf, withRecorded}
 use Rattle.image.specs.Sameness.{SameElement, Outside}
 use Rattle.image.proofs.HeaderLaws.{good-header, sound}
-use Rattle.image.proofs.StoreLaws.{OffKind, recordedAfter, after-stored, after-reached, record-none, record-length, record-apart, record-header, record-kind, record-bytes}
+use Rattle.image.proofs.StoreLaws.{OffKind, recordedAfter, after-stored, after-reached, record-none, record-length, record-apart, record-header}
+use Rattle.image.proofs.StoreLaws.{record-kind, record-bytes}
 use Rattle.opcodes.specs.declared.Command.{Command}
-use Rattle.opcodes.specs.declared.Command.the-variants.{Unknown, TestUnitReady, Rewind, RequestSense, Read, Write, WriteFilemarks, Space, Inquiry, ModeSelect, ModeSense, LoadUnload, Locate, ReadPosition}
+use Rattle.opcodes.specs.declared.Command.the-variants.{Unknown, TestUnitReady, Rewind, RequestSense, Read, Write, WriteFilemarks, Space, Inquiry}
+use Rattle.opcodes.specs.declared.Command.the-variants.{ModeSelect, ModeSense, LoadUnload, Locate, ReadPosition}
 use Rattle.transfer.specs.declared.Moved.{Moved}
 use Rattle.transfer.specs.Reading.{readFrom}
 use Rattle.transfer.specs.Spacing.{blocksOn, blocksBack, marksOn, marksBack}
@@ -30,7 +32,8 @@ use Rattle.transfer.specs.Writing.{Writing, blockOf, writeFrom, markOf, markFro
 use Rattle.transfer.proofs.ReadLaws.{read-run, read-left, read-place, read-length, copied, few-moved}
 use Rattle.transfer.proofs.WriteLaws.{lay-run, lay-left, lay-passed}
 use Rattle.transfer.proofs.LaidLaws.{Laid, Apart, marks-laid, blocks-laid}
-use Rattle.transfer.proofs.SpaceLaws.{blocks-on-ended, blocks-on-place, blocks-back-ended, blocks-back-place, marks-on-ended, marks-on-place, marks-back-ended, marks-back-place}
+use Rattle.transfer.proofs.SpaceLaws.{blocks-on-ended, blocks-on-place, blocks-back-ended, blocks-back-place, marks-on-ended, marks-on-place}
+use Rattle.transfer.proofs.SpaceLaws.{marks-back-ended, marks-back-place}
 use Rattle.packet_parts.specs.declared.requests.Request.{Request}
 use Rattle.packet_parts.specs.declared.state.Ending.{Ending}
 use Rattle.packet_parts.specs.declared.state.Ending.the-variants.{Good, Check}
@@ -48,7 +51,8 @@ use Rattle.stream.specs.Packet.{streamDevice, packetStep}
 use Rattle.stream_parts.specs.Requests.{requestOf, spaceCode, isBack, overBlocks, toEndOfData, magnitude}
 use Rattle.packet_parts.specs.Senses.{wrongList, beyondData}
 use Rattle.packet_parts.specs.States.{speeds, keepsRecordRules, atPlace, withLoaded, withSpeed}
-use Rattle.stream.specs.Work.{moves, endingOf, readEnds, readWork, writeEnding, writeEnds, writeWork, markWork, spaceRun, spaceEnds, spaceWork, replyWork, listSpeed, goodList, selectWork, loadWork, locateWork, workOf}
+use Rattle.stream.specs.Work.{moves, endingOf, readEnds, readWork, writeEnding, writeEnds, writeWork, markWork, spaceRun, spaceEnds, spaceWork}
+use Rattle.stream.specs.Work.{replyWork, listSpeed, goodList, selectWork, loadWork, locateWork, workOf}
 use Rattle.packet_laws.specs.Words.{numberOf, blocksOf, bytesOf}
 use Rattle.packet_laws.proofs.Ways.{Way, cut, broken, unruly, short, ends-early, works, way}
 use Rattle.stream_laws.specs.Words.{storesOn, stores, gives, Untouched}
@@ -80,7 +84,8 @@ pub record Leaves (s : List ℕ) (st : State) (q : Request) (buf : List ℕ) (st
   pub none-stored : blocksOf x ≡ 0 → x .image ≡ s
   pub no-store : storing ≡ false → x .image ≡ s
 
-module _ (s : List ℕ) (st : State) (q : Request) (buf : List ℕ) (good : keepsHeaderRules s ≡ true) (rules : keepsRecordRules (fieldsOf s .recorded) st ≡ true) where
+module _ (s : List ℕ) (st : State) (q : Request) (buf : List ℕ) (good : keepsHeaderRules s ≡ true)
+    (rules : keepsRecordRules (fieldsOf s .recorded) st ≡ true) where
   abbrev h : Header
   h = fieldsOf s
 
@@ -203,7 +208,8 @@ module _ (s : List ℕ) (st : State) (q : Request) (buf : List ℕ) (good : keep
   unfolding spaceWork
   spaces code = by (eqb code toEndOfData)
     where
-      by : (a : Bool) → Leaves s st q buf false false (done (if a then ends (atPlace st (h .recorded)) Good 0 0 else spaceEnds st (spaceRun s h p code n)) s buf)
+      by : (a : Bool)
+          → Leaves s st q buf false false (done (if a then ends (atPlace st (h .recorded)) Good 0 0 else spaceEnds st (spaceRun s h p code n)) s buf)
       by true = quiet (atPlace st (h .recorded)) Good 0 (le-refl (h .recorded)) (kept-rules .speed) (omega arith)
       by false =
           let m = spaceRun s h p code n in
@@ -221,7 +227,10 @@ module _ (s : List ℕ) (st : State) (q : Request) (buf : List ℕ) (good : keep
     where
       by : (a b : Bool) → goodList buf ≡ b
           → Leaves s st q buf false false
-          (done (if not a then ends st Good 0 (q .length) else if not b then ends st (Check wrongList) 0 0 else ends (withSpeed st (listSpeed buf)) Good 0 (q .length)) s buf)
+          (done
+          (if not a then ends st Good 0 (q .length) else if not b then ends st (Check wrongList) 0 0 else
+          ends (withSpeed st (listSpeed buf)) Good 0 (q .length))
+          s buf)
       by true true e = quiet (withSpeed st (listSpeed buf)) Good (q .length) (kept-rules .place) (good-speed e) (omega arith)
       by true false e = quiet st (Check wrongList) 0 (kept-rules .place) (kept-rules .speed) (omega arith)
       by false b e = quiet st Good (q .length) (kept-rules .place) (kept-rules .speed) (omega arith)
@@ -298,8 +307,9 @@ module _ (s : List ℕ) (st : State) (q : Request) (buf : List ℕ) (good : keep
       let X = writeFrom (h .size) (h .kinds) (h .blocks) (h .capacity) buf n 0 p s in
       let less = lay-left (blockOf (h .size) (h .kinds) (h .blocks) buf) (h .size) (h .capacity) n 0 p s in
       let passed = lay-passed (blockOf (h .size) (h .kinds) (h .blocks) buf) (h .size) (h .capacity) n 0 p s in
+      let run = lay-run (blockOf (h .size) (h .kinds) (h .blocks) buf) (h .size) (h .capacity) n 0 p s in
       stored (Apart h) (h .size) X (le-refl (h .size)) less passed
-      (blocks-laid h (h .capacity) (le-refl (h .capacity)) buf (lay-run (blockOf (h .size) (h .kinds) (h .blocks) buf) (h .size) (h .capacity) n 0 p s) (good-header s good) within (omega arith))
+      (blocks-laid h (h .capacity) (le-refl (h .capacity)) buf run (good-header s good) within (omega arith))
       (λ m k b i x y.
       let z = mul-le-mul-right (h .size) x in
       let w = mul-le-mul-right (h .size) y in

@@ -5,4 +5,7 @@ pub mod Leaving
 pub mod PlateTable
 pub mod ReadingBack
 pub mod Refusals
+pub mod Settling
+pub mod Storing
+pub mod Telling
 pub mod Working

@@ -1,5 +1,6 @@
 -- 01's worked examples marked *, computed.
 -- Assumes nothing.
+use native.Mathlib.Omega.{arith}
 use mathlib.Core.Path.{refl}
 use Rattle.numbers.specs.Member.{isIn}
 use Rattle.numbers.specs.RuleList.{allHold}
@@ -17,9 +18,26 @@ use Rattle.packet_parts.specs.Verdicts.{foundFirst, verdictBy}
 use Rattle.stream_parts.specs.Checks.{askedBy}
 use Rattle.stream_parts.specs.Requests.{requestOf, isBack, magnitude}
 use Rattle.packet_parts.specs.States.{keepsRecordRules}
-use Rattle.stream.specs.Work.{endingOf, readEnds, readWork, writeEnding, writeEnds, writeWork, markWork, spaceRun, spaceWork, goodList, selectWork, loadWork, locateWork, workOf}
-use Rattle.stream_laws.specs.Demands.{PlatesPrint}
+use Rattle.stream.specs.Work.{endingOf, readEnds, readWork, writeEnding, writeEnds, writeWork, markWork, spaceRun, spaceWork, goodList, selectWork}
+use Rattle.stream.specs.Work.{loadWork, locateWork, workOf}
+use Rattle.stream_laws.specs.Demands.{PlatesPrint, WorkBegins}
 
 pub plates-print : PlatesPrint
-unfolding answersTo decided carriedOut verdictBy foundFirst askedBy requestOf requestUnder isBack magnitude keepsRecordRules streamCommand headerOf keepsHeaderRules fieldsOf allHold isIn kindOf kindAt blockAt layBlock layMark recordTo stopAt readFrom blocksOn blocksBack marksOn marksBack layFrom ends endingOf readEnds readWork writeEnding writeEnds writeWork markWork spaceRun spaceWork firstOf replyEnds goodList selectWork loadWork locateWork workOf
+unfolding answersTo decided carriedOut verdictBy foundFirst askedBy requestOf requestUnder isBack magnitude keepsRecordRules streamCommand
+    headerOf keepsHeaderRules fieldsOf allHold isIn kindOf kindAt blockAt layBlock layMark recordTo stopAt readFrom blocksOn blocksBack
+    marksOn marksBack layFrom ends endingOf readEnds readWork writeEnding writeEnds writeWork markWork spaceRun spaceWork firstOf replyEnds
+    goodList selectWork loadWork locateWork workOf
 plates-print = refl
+
+pub work-begins : WorkBegins
+unfolding answersTo decided carriedOut verdictBy foundFirst askedBy requestOf requestUnder isBack magnitude keepsRecordRules streamCommand
+    headerOf keepsHeaderRules fieldsOf allHold isIn kindOf kindAt blockAt layBlock layMark recordTo stopAt readFrom blocksOn blocksBack
+    marksOn marksBack layFrom ends endingOf readEnds readWork writeEnding writeEnds writeWork markWork spaceRun spaceWork firstOf replyEnds
+    goodList selectWork loadWork locateWork workOf
+work-begins =
+    record {
+      read = (record { not-refused = refl; works = refl }, omega arith);
+      write = (record { not-refused = refl; works = refl }, omega arith);
+      filemarks = (record { not-refused = refl; works = refl }, omega arith);
+      unreadable = refl;
+    }

@@ -1,7 +1,7 @@
 -- A written block reads back the same until something is stored at or before its place.
 -- Assumes nothing.
 use Prim.Native.Nat.{ℕ, suc, _+_, _*_, _-_, _≤_, _<_}
-use native.Mathlib.Nat.{le-refl, zero-add}
+use native.Mathlib.Nat.{zero-add}
 use native.Mathlib.Omega.{arith}
 use mathlib.Core.Bool.{Bool, true, false}
 use mathlib.Core.List.{List}
@@ -12,32 +12,29 @@ use lib.ListN.{length}
 use Rattle.numbers.specs.Over.{part}
 use Rattle.image.specs.declared.header.Header.{Header}
 use Rattle.image.specs.declared.header.Judged.the-variants.{Good}
-use Rattle.image.specs.Elements.{holdsData, blockAt, recordTo}
+use Rattle.image.specs.Elements.{holdsData, blockAt}
 use Rattle.image.specs.Header.{fieldsOf, headerOf, withRecorded}
 use Rattle.image.proofs.HeaderLaws.{fields-are, good-header, is-block, sound}
-use Rattle.image.proofs.StoreLaws.{recordedAfter, after-reached, record-header, record-kind, record-bytes}
-use Rattle.opcodes.specs.declared.Command.{Command}
-use Rattle.opcodes.specs.declared.Command.the-variants.{Read, Write}
+use Rattle.opcodes.specs.declared.Command.the-variants.{Read}
 use Rattle.transfer.specs.Reading.{readFrom}
-use Rattle.transfer.specs.Writing.{blockOf, writeFrom}
 use Rattle.transfer.proofs.ReadLaws.{read-run, read-left, read-block, data-moved, read-first}
-use Rattle.transfer.proofs.LaidLaws.{blocks-laid, blocks-read-back}
-use Rattle.transfer.proofs.WriteLaws.{lay-run, lay-left, lay-passed}
 use Rattle.packet_parts.specs.declared.requests.Request.{Request}
 use Rattle.packet_parts.specs.declared.state.State.{State}
 use Rattle.packet_parts.specs.Answers.{Left}
 use Rattle.stream_parts.specs.Checks.{askedBy}
 use Rattle.stream.specs.Packet.{streamDevice, packetStep}
 use Rattle.stream_parts.specs.Requests.{requestOf}
-use Rattle.stream.specs.Work.{workOf, readWork, readEnds, writeWork, writeEnds}
-use Rattle.packet_laws.specs.Words.{numberOf, blocksOf, Passes}
-use Rattle.packet_laws.proofs.Refusals.{begins-passes, begins-room, begins-work}
-use Rattle.stream_laws.specs.Words.{BeginsWork, stores, gives, IsRecorded}
+use Rattle.stream.specs.Work.{workOf, readWork, readEnds}
+use Rattle.packet_laws.specs.Words.{numberOf, blocksOf}
+use Rattle.packet_laws.proofs.Refusals.{begins-passes}
+use Rattle.stream_laws.specs.Words.{stores, gives, IsRecorded}
 use Rattle.stream_laws.specs.History.{StoresUpTo, Later, at-once, asked, replaced}
 use Rattle.stream_laws.specs.Demands.{ReadsBack, ReadGives, ReadMoves}
 use Rattle.stream_laws.proofs.Endings.{ends-is, ruly-of}
 use Rattle.stream_laws.proofs.Leaving.{Leaves, accepted-leaves}
 use Rattle.stream_laws.proofs.Refusals.{refused-keeps}
+use Rattle.stream_laws.proofs.Storing.{blocks-stored}
+use Rattle.stream_laws.proofs.Working.{step-is, room-is}
 
 -- ---- one packet
 
@@ -82,34 +79,12 @@ later-block i bytes at-once b = b
 later-block i bytes (asked packet buf l f) b = still-block i bytes _ _ packet buf (later-block i bytes l b) f
 later-block i bytes (replaced st'' l) b = later-block i bytes l b
 
--- ---- what WRITE stored, what READ copies
+-- ---- what READ copies
 
 module _ (s : List ℕ) (st : State) (q : Request) (buf : List ℕ) (good : headerOf s ≡ Good (fieldsOf s)) (place : st .position ≤ fieldsOf s .recorded)
     (room : q .count * fieldsOf s .size ≤ length buf) where
   abbrev h : Header
   h = fieldsOf s
-
-  written : (j : ℕ) → j < blocksOf (writeWork s h st (q .count) buf)
-      → IsRecorded (writeWork s h st (q .count) buf .image) (st .position + j) (part buf (j * h .size) (h .size))
-  unfolding writeWork writeEnds
-  written j b =
-      let n = q .count in
-      let X = writeFrom (h .size) (h .kinds) (h .blocks) (h .capacity) buf n 0 (st .position) s in
-      let run = lay-run (blockOf (h .size) (h .kinds) (h .blocks) buf) (h .size) (h .capacity) n 0 (st .position) s in
-      let less = lay-left (blockOf (h .size) (h .kinds) (h .blocks) buf) (h .size) (h .capacity) n 0 (st .position) s in
-      let passed = lay-passed (blockOf (h .size) (h .kinds) (h .blocks) buf) (h .size) (h .capacity) n 0 (st .position) s in
-      let moved : j < n - X .moved .left = rw ends-is at b in
-      let to = X .moved .place in
-      let g = sound s h good in
-      let w = blocks-laid h (h .capacity) (le-refl (h .capacity)) buf run good (omega arith) (omega arith) in
-      let z = blocks-read-back h (h .capacity) (le-refl (h .capacity)) buf run good (omega arith) j (omega arith) in
-      let c = after-reached (h .recorded) (st .position) to (omega arith) in
-      let b = w .reached in
-      let e = record-header (X .image) h (w .header) (st .position) to b in
-      is-block _ (recordTo (X .image) (st .position) to) (withRecorded h (recordedAfter (h .recorded) (st .position) to)) (st .position + j) _
-      e (rw (fields-are _ _ e) (omega arith))
-      (ap holdsData (record-kind (X .image) h (w .header) (st .position) to b (st .position + j) ∙ z .0))
-      (record-bytes (X .image) h (w .header) (st .position) to b (st .position + j) (omega arith) ∙ rw zero-add at (z .1))
 
   moves-first : (bytes : List ℕ) → IsRecorded s (st .position) bytes → 1 ≤ q .count → 1 ≤ blocksOf (readWork s h st (q .count) buf)
   unfolding readWork readEnds
@@ -127,20 +102,10 @@ module _ (s : List ℕ) (st : State) (q : Request) (buf : List ℕ) (good : head
       let less = read-left s (h .size) (h .kinds) (h .blocks) (h .recorded) n 0 (st .position) buf in
       let g = sound s h good in
       let m : k + readFrom s (h .size) (h .kinds) (h .blocks) (h .recorded) n 0 (st .position) buf .moved .left < n = omega (arith, rw ends-is at l) in
-      let d = data-moved s (h .size) (h .kinds) (h .blocks) (h .recorded) (read-run s (h .size) (h .kinds) (h .blocks) (h .recorded) n 0 (st .position) buf) k m in
+      let run = read-run s (h .size) (h .kinds) (h .blocks) (h .recorded) n 0 (st .position) buf in
+      let d = data-moved s (h .size) (h .kinds) (h .blocks) (h .recorded) run k m in
       let z = read-block s (h .size) (h .kinds) (h .blocks) (h .recorded) n 0 (st .position) buf (omega arith) (g .recorded-blocks) k m in
       is-block _ s h (st .position + k) _ good (d .0) (d .1) (sym (rw zero-add at z))
-
-module _ (s : List ℕ) (st : State) (packet buf : List ℕ) (b : BeginsWork s st packet buf) where
-  abbrev p : Passes streamDevice s st packet buf
-  p = begins-passes streamDevice s st packet buf b
-
-  -- the packet's outcome under its command
-  step-is : (c : Command) → requestOf packet .command ≡ c → packetStep s st packet buf ≡ workOf c s (fieldsOf s) st (requestOf packet) buf
-  step-is c e = rw (← e) (begins-work streamDevice s st packet buf b)
-
-  room-is : (c : Command) → requestOf packet .command ≡ c → askedBy c (fieldsOf s) (requestOf packet) .needed ≤ length buf
-  room-is c e = rw (← e) (begins-room streamDevice s st packet buf b)
 
 pub read-gives : ReadGives
 unfolding workOf askedBy
@@ -156,18 +121,9 @@ read-moves s st packet buf bytes b c =
     rw (step-is s st packet buf b Read c)
     (moves-first s st (requestOf packet) buf (good-header s (p .good)) (ruly-of _ _ (p .ruly) .place) (room-is s st packet buf b Read c) bytes)
 
-block-stored : (s : List ℕ) (st : State) (packet buf : List ℕ) → BeginsWork s st packet buf → requestOf packet .command ≡ Write
-    → (j : ℕ) → j < blocksOf (packetStep s st packet buf)
-    → IsRecorded (packetStep s st packet buf .image) (st .position + j) (part buf (j * fieldsOf s .size) (fieldsOf s .size))
-unfolding workOf askedBy
-block-stored s st packet buf b c j n =
-    let p = begins-passes streamDevice s st packet buf b in
-    let e = step-is s st packet buf b Write c in
-    rw e (written s st (requestOf packet) buf (good-header s (p .good)) (ruly-of _ _ (p .ruly) .place) (room-is s st packet buf b Write c) j (rw e at n))
-
 pub reads-back : ReadsBack
 reads-back s st packet buf b c j n s' st' l =
-    let w = later-block (st .position + j) _ l (block-stored s st packet buf b c j n) in (
+    let w = later-block (st .position + j) _ l (blocks-stored s st packet buf b c j n) in (
       w,
       λ packet' buf' b' c' k m e.
           let r = read-gives s' st' packet' buf' b' c' k m in

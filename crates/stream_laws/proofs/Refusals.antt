@@ -1,8 +1,10 @@
 -- Refused packets and packets that begin, as for every packet device, and that every outcome is settled.
 -- Assumes nothing.
 use mathlib.Core.Path.{sym, ap, _∙_}
+use Rattle.numbers.proofs.Cases.{settles}
 use Rattle.packet_parts.specs.declared.state.State.{State}
 use Rattle.packet_parts.specs.Answers.{Left}
+use Rattle.packet_parts.specs.States.{freshState, changedState}
 use Rattle.packet_laws.specs.Words.{Working}
 use Rattle.packet_laws.proofs.Refusals as any-device
 use Rattle.stream.specs.Packet.{streamDevice}
@@ -31,6 +33,6 @@ settled =
       packet = λ s st packet buf r r' i i' b b' p q.
           let e = p ∙ sym q in
           (ap outcomeOf e, ap (λ (x : Left State). x .image) e, ap (λ (x : Left State). x .buf) e);
-      fresh = λ r r' p q. p ∙ sym q;
-      changed = λ st r r' p q. p ∙ sym q;
+      fresh = settles freshState;
+      changed = λ st. settles (changedState st);
     }

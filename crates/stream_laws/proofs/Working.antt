@@ -1,8 +1,9 @@
--- "blocks moved plus residue equal blocks asked", command by command.
+-- The work of a packet that begins, and "blocks moved plus residue equal blocks asked", command by command.
 -- Assumes nothing.
-use Prim.Native.Nat.{ℕ, _+_}
+use Prim.Native.Nat.{ℕ, _+_, _≤_}
 use mathlib.Core.List.{List}
 use mathlib.Core.Path.{_≡_}
+use lib.ListN.{length}
 use Rattle.image.specs.Header.{fieldsOf}
 use Rattle.opcodes.specs.declared.Command.{Command}
 use Rattle.transfer.proofs.ReadLaws.{read-ended}
@@ -10,13 +11,22 @@ use Rattle.transfer.proofs.WriteLaws.{lay-ended}
 use Rattle.packet_parts.specs.declared.requests.Request.{Request}
 use Rattle.packet_parts.specs.declared.state.State.{State}
 use Rattle.packet_laws.specs.Words.{blocksOf}
-use Rattle.packet_laws.proofs.Refusals.{begins-work}
+use Rattle.packet_laws.proofs.Refusals.{begins-room, begins-work}
+use Rattle.stream_parts.specs.Checks.{askedBy}
 use Rattle.stream_parts.specs.Requests.{requestOf}
-use Rattle.stream.specs.Packet.{streamDevice}
+use Rattle.stream.specs.Packet.{streamDevice, packetStep}
 use Rattle.stream.specs.Work.{workOf, readWork, readEnds, writeWork, writeEnds, markWork}
-use Rattle.stream_laws.specs.Words.{residueOf, Moves, by-read, by-write, by-filemarks}
+use Rattle.stream_laws.specs.Words.{residueOf, BeginsWork, Moves, by-read, by-write, by-filemarks}
 use Rattle.stream_laws.specs.Demands.{MovedPlusResidue}
 use Rattle.stream_laws.proofs.Endings.{ends-is, read-residue, write-residue}
+
+module _ (s : List ℕ) (st : State) (packet buf : List ℕ) (b : BeginsWork s st packet buf) where
+  -- the packet's outcome under its command
+  pub step-is : (c : Command) → requestOf packet .command ≡ c → packetStep s st packet buf ≡ workOf c s (fieldsOf s) st (requestOf packet) buf
+  step-is c e = rw (← e) (begins-work streamDevice s st packet buf b)
+
+  pub room-is : (c : Command) → requestOf packet .command ≡ c → askedBy c (fieldsOf s) (requestOf packet) .needed ≤ length buf
+  room-is c e = rw (← e) (begins-room streamDevice s st packet buf b)
 
 moved-by : (s : List ℕ) (st : State) (q : Request) (buf : List ℕ) {c : Command} → Moves c
     → blocksOf (workOf c s (fieldsOf s) st q buf) + residueOf (workOf c s (fieldsOf s) st q buf .state .sense) ≡ q .count

@@ -4,19 +4,26 @@ use Prim.Native.Nat.{ℕ, _+_, _*_, _≤_, _<_}
 use mathlib.Core.Bool.{true}
 use mathlib.Core.List.{List}
 use mathlib.Core.Path.{_≡_}
+use lib.ListN.{replicate}
+use Rattle.numbers.specs.Outcomes.{Settles}
 use Rattle.numbers.specs.Over.{part}
+use Rattle.image.specs.declared.elements.Kind.the-variants.{Filemark}
 use Rattle.image.specs.Header.{fieldsOf, keepsHeaderRules, withRecorded}
-use Rattle.opcodes.specs.declared.Command.the-variants.{Read, Write}
+use Rattle.opcodes.specs.declared.Command.the-variants.{Read, Write, WriteFilemarks}
 use Rattle.packet_parts.specs.declared.state.Outcome.{Outcome}
 use Rattle.packet_parts.specs.declared.state.State.{State}
-use Rattle.packet_parts.specs.States.{keepsRecordRules}
-use Rattle.packet_laws.specs.Promises.{CutPacket as CutPacketOf, RefusedKeeps as RefusedKeepsOf, NumberExactly as NumberExactlyOf, BeginsExactly as BeginsExactlyOf}
-use Rattle.packet_laws.specs.Words.{numberOf, blocksOf}
+use Rattle.packet_parts.specs.Answers.{Left}
+use Rattle.packet_parts.specs.Senses.{unreadableBlock}
+use Rattle.packet_parts.specs.States.{keepsRecordRules, atPlace, withSense}
+use Rattle.packet_laws.specs.Promises.{CutPacket as CutPacketOf, RefusedKeeps as RefusedKeepsOf, NumberExactly as NumberExactlyOf}
+use Rattle.packet_laws.specs.Promises.{BeginsExactly as BeginsExactlyOf}
+use Rattle.packet_laws.specs.Words.{numberOf, blocksOf, bytesOf}
 use Rattle.stream_parts.specs.Requests.{requestOf}
 use Rattle.stream.specs.Packet.{FreshPromise, ChangedPromise, PacketPromise, streamDevice, packetStep}
 use Rattle.stream_laws.specs.History.{Later}
-use Rattle.stream_laws.specs.Plates.{allAgree, plates}
-use Rattle.stream_laws.specs.Words.{residueOf, BeginsWork, Moves, IsRecorded, EveryReadGives, Kept, AlikeBelowU}
+use Rattle.stream_laws.specs.Plates.{unreadableAtTwo, standing, sent, readTwo, allAgree, plates, BeginsAndMoves}
+use Rattle.stream_laws.specs.Words.{residueOf, BeginsWork, Moves, Stores, IsRecorded, IsElement, EveryReadGives, Kept, AlikeBelowU}
+use Rattle.stream_laws.specs.Words.{ReadEnds, WriteEnds, passedBeside, GoodRead, BlocksGood, MarksGood, SameBelowU}
 
 -- What every packet device promises: "1: packet is not 12 bytes", whatever the image, the record and the buffer; nothing changes.
 abbrev pub CutPacket : Type 0
@@ -40,13 +47,69 @@ MovedPlusResidue =
     (s : List ℕ) (st : State) (packet buf : List ℕ) → BeginsWork s st packet buf → Moves (requestOf packet .command)
     → blocksOf (packetStep s st packet buf) + residueOf (packetStep s st packet buf .state .sense) ≡ requestOf packet .count
 
+-- "Filemark: .. stop, key 0, filemark, 00/01. Unreadable: .. stop, 3/11/00. P = U: stop, 8/00/05": a READ that begins copies all N and ends GOOD, or
+-- ends with the sense of what stands in the image at P plus the blocks told.
+abbrev pub ReadTellsWhy : Type 0
+ReadTellsWhy =
+    (s : List ℕ) (st : State) (packet buf : List ℕ) → BeginsWork s st packet buf → requestOf packet .command ≡ Read
+    → ReadEnds s (st .position) (requestOf packet .count) (packetStep s st packet buf)
+
+-- "At P = C: stop": a WRITE or WRITE FILEMARK that begins stores all N, or so many that it stands at C, and ends with the sense that 01 has for it.
+abbrev pub WriteTellsWhy : Type 0
+WriteTellsWhy =
+    (s : List ℕ) (st : State) (packet buf : List ℕ) → BeginsWork s st packet buf → Stores (requestOf packet .command)
+    → WriteEnds s (st .position) (requestOf packet .count) (packetStep s st packet buf)
+
+-- "Data: copied, P + 1. Filemark: P + 1 .. Unreadable: P + 1": where a READ leaves the drive can be told from its answer and sense alone.
+abbrev pub ReadStands : Type 0
+ReadStands =
+    (s : List ℕ) (st : State) (packet buf : List ℕ) → BeginsWork s st packet buf → requestOf packet .command ≡ Read
+    → packetStep s st packet buf .state .position
+    ≡ st .position + blocksOf (packetStep s st packet buf) + passedBeside (packetStep s st packet buf .state .sense)
+
+-- "bytes and kind 1 stored, P + 1", "filemarks by WRITE's rules": P plus the blocks told.
+abbrev pub WriteStands : Type 0
+WriteStands =
+    (s : List ℕ) (st : State) (packet buf : List ℕ) → BeginsWork s st packet buf → Stores (requestOf packet .command)
+    → packetStep s st packet buf .state .position ≡ st .position + blocksOf (packetStep s st packet buf)
+
+-- "bytes are those filled or taken in the data buffer": B for each block read or written, none for a filemark.
+pub record BytesAreBlocks : Type 0 where
+  pub read : (s : List ℕ) (st : State) (packet buf : List ℕ) → BeginsWork s st packet buf → requestOf packet .command ≡ Read
+      → bytesOf (packetStep s st packet buf) ≡ blocksOf (packetStep s st packet buf) * fieldsOf s .size
+  pub write : (s : List ℕ) (st : State) (packet buf : List ℕ) → BeginsWork s st packet buf → requestOf packet .command ≡ Write
+      → bytesOf (packetStep s st packet buf) ≡ blocksOf (packetStep s st packet buf) * fieldsOf s .size
+  pub filemarks : (s : List ℕ) (st : State) (packet buf : List ℕ) → BeginsWork s st packet buf → requestOf packet .command ≡ WriteFilemarks
+      → bytesOf (packetStep s st packet buf) ≡ 0
+
+-- READ, WRITE and WRITE FILEMARK that begin change P and the sense of the record, nothing else.
+abbrev pub RecordKept : Type 0
+RecordKept =
+    (s : List ℕ) (st : State) (packet buf : List ℕ) → BeginsWork s st packet buf → Moves (requestOf packet .command)
+    → packetStep s st packet buf .state ≡ withSense (atPlace st (packetStep s st packet buf .state .position)) (packetStep s st packet buf .state .sense)
+
+-- A READ that begins is all that 01 asks of it, and nothing of it is left open: two drives that do what 01 asks leave the same.
+pub record ReadSettled : Type 0 where
+  pub good : (s : List ℕ) (st : State) (packet buf : List ℕ) → BeginsWork s st packet buf → requestOf packet .command ≡ Read
+      → GoodRead s st (requestOf packet .count) buf (packetStep s st packet buf)
+  pub one : (s : List ℕ) (st : State) (n : ℕ) (buf : List ℕ) (x y : Left State) → GoodRead s st n buf x → GoodRead s st n buf y → x ≡ y
+
+-- The same of WRITE and WRITE FILEMARK, but for what means nothing: what the image has at U and above.
+pub record WriteSettled : Type 0 where
+  pub blocks-good : (s : List ℕ) (st : State) (packet buf : List ℕ) → BeginsWork s st packet buf → requestOf packet .command ≡ Write
+      → BlocksGood s st (requestOf packet .count) buf (packetStep s st packet buf)
+  pub marks-good : (s : List ℕ) (st : State) (packet buf : List ℕ) → BeginsWork s st packet buf → requestOf packet .command ≡ WriteFilemarks
+      → MarksGood s st (requestOf packet .count) buf (packetStep s st packet buf)
+  pub blocks-one : (s : List ℕ) (st : State) (n : ℕ) (buf : List ℕ) (x y : Left State) → BlocksGood s st n buf x → BlocksGood s st n buf y → SameBelowU x y
+  pub marks-one : (s : List ℕ) (st : State) (n : ℕ) (buf : List ℕ) (x y : Left State) → MarksGood s st n buf x → MarksGood s st n buf y → SameBelowU x y
+
 -- "Prove that any two outcomes allowed by it coincide": what the promises of `packet`, `fresh` and `changed` allow.
 pub record Settled : Type 0 where
   pub packet : (s : List ℕ) (st : State) (packet buf : List ℕ) (r r' : Outcome) (image image' buf' buf'' : List ℕ)
       → PacketPromise s st packet buf r image buf' → PacketPromise s st packet buf r' image' buf''
       → (r ≡ r') × (image ≡ image') × (buf' ≡ buf'')
-  pub fresh : (r r' : State) → FreshPromise r → FreshPromise r' → r ≡ r'
-  pub changed : (st r r' : State) → ChangedPromise st r → ChangedPromise st r' → r ≡ r'
+  pub fresh : Settles FreshPromise
+  pub changed : (st : State) → Settles (ChangedPromise st)
 
 -- What an accepted packet leaves is again accepted: the image keeps the header rules, with the same header but U, and the record keeps rule 3 for it.
 abbrev pub StaysGood : Type 0
@@ -84,6 +147,24 @@ ReadMoves =
     → IsRecorded s (st .position) bytes → 1 ≤ requestOf packet .count
     → 1 ≤ blocksOf (packetStep s st packet buf)
 
+-- "bytes and kind 1 stored": each block that a WRITE counts is recorded data with the buffer's bytes, in the image that it leaves.
+abbrev pub BlocksStored : Type 0
+BlocksStored =
+    (s : List ℕ) (st : State) (packet buf : List ℕ) → BeginsWork s st packet buf → requestOf packet .command ≡ Write
+    → (j : ℕ) → j < blocksOf (packetStep s st packet buf)
+    → IsRecorded (packetStep s st packet buf .image) (st .position + j) (part buf (j * fieldsOf s .size) (fieldsOf s .size))
+
+-- "10h: N (bytes 2-4) filemarks": each element that a WRITE FILEMARK counts is a filemark below the new U, in the image that it leaves.
+abbrev pub MarksStored : Type 0
+MarksStored =
+    (s : List ℕ) (st : State) (packet buf : List ℕ) → BeginsWork s st packet buf → requestOf packet .command ≡ WriteFilemarks
+    → (j : ℕ) → j < blocksOf (packetStep s st packet buf)
+    → IsElement (packetStep s st packet buf .image) (st .position + j) Filemark
+
+-- "Blocks are elements copied or stored": a packet that counts none leaves the image as it was, U too.
+abbrev pub NoneStored : Type 0
+NoneStored = (s : List ℕ) (st : State) (packet buf : List ℕ) → blocksOf (packetStep s st packet buf) ≡ 0 → packetStep s st packet buf .image ≡ s
+
 -- "A written block reads back the same until something is stored at or before its place": block j of a WRITE is element P + j with its bytes through
 -- every later history, and every READ that moves it gives these bytes.
 abbrev pub ReadsBack : Type 0
@@ -97,3 +178,10 @@ ReadsBack =
 -- 01: "A small set is proved together as one table (*)"
 abbrev pub PlatesPrint : Type 0
 PlatesPrint = allAgree plates ≡ true
+
+-- What is asked above can be so: a READ, a WRITE and a WRITE FILEMARK that begin and move an element, a READ that meets an unreadable block.
+pub record WorkBegins : Type 0 where
+  pub read : BeginsAndMoves (standing 0) readTwo
+  pub write : BeginsAndMoves (standing 3) (sent 0x0a 1 0 0 1 0 0)
+  pub filemarks : BeginsAndMoves (standing 3) (sent 0x10 0 0 0 1 0 0)
+  pub unreadable : packetStep unreadableAtTwo (standing 2) readTwo (replicate 1024 9) .state .sense ≡ unreadableBlock 2

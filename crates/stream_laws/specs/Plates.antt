@@ -1,27 +1,40 @@
 -- 01, "Plates that must print alike": those of the packet drive that are proved together as one table.
 -- Assumes nothing.
-use Prim.Native.Nat.{ℕ}
+use Prim.Native.Nat.{ℕ, _≤_}
 use mathlib.Core.Bool.{Bool, true, false, _&&_}
 use mathlib.Core.List.{List, [], _∷_, _++_}
-use lib.ListN.{replicate}
+use lib.ListN.{replicate, set}
 use Rattle.numbers.specs.Choice.{_≡ᵇ_}
+use Rattle.numbers.specs.Counts.{countBytes}
 use Rattle.image.specs.Header.{fieldsOf}
 use Rattle.packet_parts.specs.declared.state.Attention.the-variants.{Nothing}
 use Rattle.packet_parts.specs.declared.state.State.{State}
 use Rattle.packet_parts.specs.Answers.{Left}
 use Rattle.stream.specs.Packet.{packetStep}
 use Rattle.packet_parts.specs.Replies.{senseBytes}
-use Rattle.packet_parts.specs.Senses.{noSense}
+use Rattle.packet_parts.specs.States.{atPlace, withAttention, freshState}
+use Rattle.packet_laws.specs.Words.{blocksOf}
+use Rattle.stream_laws.specs.Words.{BeginsWork}
 
 -- "Image C 4, B 512, W 0, kinds 1 2 1, U 3", here with any W
 abbrev pub image : ℕ → List ℕ
 image w =
-    (0 ∷ 32 ∷ 2 ∷ 0 ∷ 0 ∷ 0 ∷ 0 ∷ 4 ∷ 0 ∷ 0 ∷ 0 ∷ 3 ∷ 0 ∷ 0 ∷ 0 ∷ 32 ∷ 0 ∷ 0 ∷ 0 ∷ 36 ∷ 0 ∷ 0 ∷ 0 ∷ w ∷ 0 ∷ 0 ∷ 0 ∷ 0 ∷ 0 ∷ 0 ∷ 0 ∷ 0 ∷ [])
-    ++ (1 ∷ 2 ∷ 1 ∷ 0 ∷ replicate 2048 7)
+    countBytes 2 32  -- header length
+    ++ (countBytes 2 512  -- B
+    ++ (countBytes 4 4  -- C
+    ++ (countBytes 4 3  -- U
+    ++ (countBytes 4 32  -- K
+    ++ (countBytes 4 36  -- D
+    ++ (0 ∷ 0 ∷ (countBytes 2 w  -- not protected, medium 0, W
+    ++ (replicate 8 0 ++ (1 ∷ 2 ∷ 1 ∷ 0 ∷ replicate 2048 7)))))))))
+
+-- the same with W 0 and a kind of element 2 that is neither 1 nor 2
+abbrev pub unreadableAtTwo : List ℕ
+unreadableAtTwo = set (image 0) 34 7
 
 -- "attention cleared", at place p
 abbrev pub standing : ℕ → State
-standing p = record { position = p; loaded = true; attention = Nothing; speed = 0; sense = noSense }
+standing p = withAttention (atPlace freshState p) Nothing
 
 -- a packet of these first seven bytes
 abbrev pub sent : ℕ → ℕ → ℕ → ℕ → ℕ → ℕ → ℕ → List ℕ
@@ -71,6 +84,11 @@ agrees p x =
 abbrev pub allAgree : List Plate → Bool
 allAgree [] = true
 allAgree (p ∷ ps) = agrees p (packetStep (image (p .warning)) (p .before) (p .packet) (replicate 1024 9)) && allAgree ps
+
+-- on this image the packet begins its work, with such a buffer, and moves an element
+abbrev pub BeginsAndMoves : State → List ℕ → Type 0
+BeginsAndMoves st packet =
+    BeginsWork (image 0) st packet (replicate 1024 9) × (1 ≤ blocksOf (packetStep (image 0) st packet (replicate 1024 9)))
 
 abbrev pub plates : List Plate
 plates =

@@ -8,12 +8,12 @@ use mathlib.Core.Path.{_≡_, refl, _∙_}
 use lib.ListN.{length, getD}
 use Rattle.numbers.specs.Over.{part}
 use Rattle.numbers.proofs.OverLaws.{part-length}
-use Rattle.image.specs.declared.elements.Kind.the-variants.{Data}
+use Rattle.image.specs.declared.elements.Kind.the-variants.{Data, Filemark}
 use Rattle.image.specs.declared.header.Header.{Header}
 use Rattle.image.specs.declared.header.Judged.the-variants.{Good}
 use Rattle.image.specs.Elements.{kindAt, blockAt}
 use Rattle.image.specs.Header.{headerOf}
-use Rattle.image.proofs.StoreLaws.{OneLaid, OffKind, OffBlock, mark-laid, block-laid, block-kind, block-here}
+use Rattle.image.proofs.StoreLaws.{OneLaid, OffKind, OffBlock, mark-laid, mark-here, block-laid, block-kind, block-here}
 use Rattle.transfer.specs.declared.Stop.{Stop}
 use Rattle.transfer.specs.Moving.{halts}
 use Rattle.transfer.specs.Writing.{Writing, writes, blockOf, markOf}
@@ -81,6 +81,20 @@ module _ (h : Header) (end : ℕ) (inside : end ≤ h .capacity) where
   pub marks-laid : {n p : ℕ} {s : List ℕ} {X : Writing} → LayRun (markOf (h .kinds)) 0 end n 0 p s X
       → headerOf s ≡ Good h → p ≤ h .capacity → Laid h (OffKind h) p s X
   marks-laid r g l = laid h (OffKind h) (markOf (h .kinds)) 0 0 (λ off p s g c r. mark-laid s h g p c) r inside g l (omega arith)
+
+  -- filemark number j of a WRITE FILEMARK is element p + j
+  pub marks-read-back : {n p : ℕ} {s : List ℕ} {X : Writing} → LayRun (markOf (h .kinds)) 0 end n 0 p s X
+      → headerOf s ≡ Good h → (j : ℕ) → p + j < X .moved .place → kindAt (X .image) (h .kinds) (p + j) ≡ Filemark
+  marks-read-back (LayRun.full off p s) g j f = absurd (omega arith)
+  marks-read-back (LayRun.at-end n off p s e) g j f = absurd (omega arith)
+  marks-read-back (LayRun.lays n off p s X e r) g zero f =
+      let c : p < h .capacity = omega arith in
+      let w = marks-laid r (mark-laid s h g p c .header) (omega arith) in
+      let y : p + 0 ≡ p = omega arith in
+      rw y (w .kinds p (omega arith) ∙ mark-here s h g p c)
+  marks-read-back (LayRun.lays n off p s X e r) g (suc j) f =
+      let y : p + suc j ≡ p + 1 + j = omega arith in
+      rw y (marks-read-back r (mark-laid s h g p (omega arith) .header) j (omega arith))
 
   module _ (src : List ℕ) where
     abbrev BlockRun : ℕ → ℕ → ℕ → List ℕ → Writing → Type 0

@@ -4,3 +4,4 @@ pub mod SpaceLaws
 pub mod EndLaws
 pub mod LaidLaws
 pub mod SameLaws
+pub mod StopLaws

@@ -99,13 +99,16 @@ module _ (h : Header) (end : ℕ) (inside : end ≤ h .capacity) where
           let n = eqb-false i p e in
           let c : i < h .capacity = ⊎-elim (λ k. omega arith) (λ k. omega arith) m in
           let o = a .elements i (⊎-elim (λ k. inl k) (λ k. inr (omega (arith, n))) m) in
-          record { kind = y .kinds i c n ∙ o .kind ∙ sym (x .kinds i c n); bytes = λ d. y .bytes i c n ∙ o .bytes (sym (ap holdsData (x .kinds i c n)) ∙ d) ∙ sym (x .bytes i c n) }
+          let k = x .kinds i c n in
+          record { kind = y .kinds i c n ∙ o .kind ∙ sym k; bytes = λ d. y .bytes i c n ∙ o .bytes (sym (ap holdsData k) ∙ d) ∙ sym (x .bytes i c n) }
 
-  laid-none : (p left : ℕ) (stop : Stop) (s t : List ℕ) → Same h end p s t → p ≤ h .capacity → LaidSame h end (writes s (halts p left stop)) (writes t (halts p left stop))
+  laid-none : (p left : ℕ) (stop : Stop) (s t : List ℕ) → Same h end p s t → p ≤ h .capacity
+      → LaidSame h end (writes s (halts p left stop)) (writes t (halts p left stop))
   laid-none p left stop s t a l = record { moved = refl; reached = l; images = a }
 
   -- the end of the tape, or on
-  unless-full : (p left : ℕ) (s t : List ℕ) (X Y : Writing) → Same h end p s t → p ≤ h .capacity → (p < h .capacity → LaidSame h end X Y) → (b : Bool) → leb (h .capacity) p ≡ b
+  unless-full : (p left : ℕ) (s t : List ℕ) (X Y : Writing) → Same h end p s t → p ≤ h .capacity → (p < h .capacity → LaidSame h end X Y)
+      → (b : Bool) → leb (h .capacity) p ≡ b
       → LaidSame h end (if b then writes s (halts p left AtEnd) else X) (if b then writes t (halts p left AtEnd) else Y)
   unless-full p left s t X Y a l f true e = laid-none p left AtEnd s t a l
   unless-full p left s t X Y a l f false e = f (leb-false _ _ e)
@@ -131,7 +134,8 @@ module _ (h : Header) (end : ℕ) (inside : end ≤ h .capacity) where
       let k = mark-here s h x p c in
       record { kind = mark-here t h y p c ∙ sym k; bytes = λ d. absurd (false≢true (sym (ap holdsData k) ∙ d)) }
 
-  pub block-same : (src : List ℕ) (off p : ℕ) (s t : List ℕ) → headerOf s ≡ GoodHeader h → headerOf t ≡ GoodHeader h → p < h .capacity → off + h .size ≤ length src
+  pub block-same : (src : List ℕ) (off p : ℕ) (s t : List ℕ) → headerOf s ≡ GoodHeader h → headerOf t ≡ GoodHeader h → p < h .capacity
+      → off + h .size ≤ length src
       → ReadsSame h (blockOf (h .size) (h .kinds) (h .blocks) src off p s) (blockOf (h .size) (h .kinds) (h .blocks) src off p t) p
   block-same src off p s t x y c r =
       let new = part src off (h .size) in

@@ -33,7 +33,12 @@ pub fn read_blocks(
     n: usize,
     p: usize,
 ) -> Moved
-    requires { ⌜ ((size ≤ 1024) × (end ≤ 65535)) × ((kinds + end ≤ length (now image)) × ((blocks + end * size ≤ length (now image)) × ((p ≤ end) × (n * size ≤ length (now buf))))) ⌝ }
+    requires { ⌜ size ≤ 1024 ⌝ }
+    requires { ⌜ end ≤ 65535 ⌝ }
+    requires { ⌜ kinds + end ≤ length (now image) ⌝ }
+    requires { ⌜ blocks + end * size ≤ length (now image) ⌝ }
+    requires { ⌜ p ≤ end ⌝ }
+    requires { ⌜ n * size ≤ length (now buf) ⌝ }
     ensures { λ r. ⌜ reads (now (buf .exit)) r ≡ readFrom (now (image .entry)) size kinds blocks end n 0 p (now (buf .entry)) ⌝ }
 {
     let mut left = n;

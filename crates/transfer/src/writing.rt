@@ -19,7 +19,12 @@ pub fn write_blocks(
     n: usize,
     p: usize,
 ) -> Moved
-    requires { ⌜ ((size ≤ 1024) × (end ≤ 65535)) × ((kinds + end ≤ blocks) × ((blocks + end * size ≤ length (now image)) × ((p ≤ end) × (n * size ≤ length (now src))))) ⌝ }
+    requires { ⌜ size ≤ 1024 ⌝ }
+    requires { ⌜ end ≤ 65535 ⌝ }
+    requires { ⌜ kinds + end ≤ blocks ⌝ }
+    requires { ⌜ blocks + end * size ≤ length (now image) ⌝ }
+    requires { ⌜ p ≤ end ⌝ }
+    requires { ⌜ n * size ≤ length (now src) ⌝ }
     ensures { λ r. ⌜ writes (now (image .exit)) r ≡ writeFrom size kinds blocks end (now (src .entry)) n 0 p (now (image .entry)) ⌝ }
 {
     let mut left = n;
@@ -38,7 +43,9 @@ pub fn write_blocks(
 }
 
 pub fn write_filemarks(image: &mut [u8], kinds: usize, end: usize, n: usize, p: usize) -> Moved
-    requires { ⌜ (end ≤ 65535) × ((kinds + end ≤ length (now image)) × (p ≤ end)) ⌝ }
+    requires { ⌜ end ≤ 65535 ⌝ }
+    requires { ⌜ kinds + end ≤ length (now image) ⌝ }
+    requires { ⌜ p ≤ end ⌝ }
     ensures { λ r. ⌜ writes (now (image .exit)) r ≡ markFrom kinds end n p (now (image .entry)) ⌝ }
 {
     let mut left = n;

@@ -1,69 +1,113 @@
 -- `encode_state` meets its contract.
 -- Assumes nothing.
 use Rattle.packet_record.specs.PacketRecord.{encodeState}
+use native.Mathlib.Omega.{arith}
+use lib.ListN.{length-set}
 use borrow.Author.Needs.{needs}
 use Rattle.packet_record.proofs.encode_state.Statement.{statement}
 use Rattle.packet_record.proofs.encode_state.Tie as tie
 
-cast-t15 : tie.Need-cast-t15
-cast-t15 c = search needs
+weight-of-requires : tie.Need-weight-of-requires
+weight-of-requires c κs = search needs
 
-cast-t17 : tie.Need-cast-t17
-cast-t17 c = search needs
+weight-of-requires-2 : tie.Need-weight-of-requires-2
+weight-of-requires-2 c κs = search needs
 
-cast-t19 : tie.Need-cast-t19
-cast-t19 c = search needs
+add-flags : tie.Need-add-flags
+add-flags c = search needs
 
-cast-t21 : tie.Need-cast-t21
-cast-t21 c = search needs
+weight-of-requires-3 : tie.Need-weight-of-requires-3
+weight-of-requires-3 c κs = search needs
 
-cast-t25 : tie.Need-cast-t25
-cast-t25 c = search needs
+add-flags-2 : tie.Need-add-flags-2
+add-flags-2 c = search needs
 
-cast-t27 : tie.Need-cast-t27
-cast-t27 c = search needs
+slice-aggregate-put-count4 : tie.Need-slice-aggregate-put-count4
+slice-aggregate-put-count4 c = search needs
 
-add-t30 : tie.Need-add-t30
-add-t30 c = search needs
+put-count4-requires : tie.Need-put-count4-requires
+put-count4-requires c κs = search needs
 
-add-t32 : tie.Need-add-t32
-add-t32 c = search needs
+weight-of-requires-4 : tie.Need-weight-of-requires-4
+weight-of-requires-4 c κs = search needs
 
-cast-t34 : tie.Need-cast-t34
-cast-t34 c = search needs
+array-write-bytes : tie.Need-array-write-bytes
+array-write-bytes c = search needs
 
-cast-t36 : tie.Need-cast-t36
-cast-t36 c = search needs
+attention-byte-requires : tie.Need-attention-byte-requires
+attention-byte-requires c κs = search needs
 
-cast-t38 : tie.Need-cast-t38
-cast-t38 c = search needs
+array-write-bytes-2 : tie.Need-array-write-bytes-2
+array-write-bytes-2 c = search needs
 
-cast-t40 : tie.Need-cast-t40
-cast-t40 c = search needs
+slice-aggregate-put-count2 : tie.Need-slice-aggregate-put-count2
+slice-aggregate-put-count2 c = search needs
+
+cast-put-count2 : tie.Need-cast-put-count2
+cast-put-count2 c = search needs
+
+put-count2-requires : tie.Need-put-count2-requires
+put-count2-requires c κs = simp length-set (omega arith)
+
+array-write-bytes-3 : tie.Need-array-write-bytes-3
+array-write-bytes-3 c = search needs
+
+array-write-bytes-4 : tie.Need-array-write-bytes-4
+array-write-bytes-4 c = search needs
+
+array-write-bytes-5 : tie.Need-array-write-bytes-5
+array-write-bytes-5 c = search needs
+
+array-write-bytes-6 : tie.Need-array-write-bytes-6
+array-write-bytes-6 c = search needs
+
+slice-aggregate-put-count4-2 : tie.Need-slice-aggregate-put-count4-2
+slice-aggregate-put-count4-2 c = search needs
+
+put-count4-requires-2 : tie.Need-put-count4-requires-2
+put-count4-requires-2 c κs = simp length-set (omega arith)
 
 returns : tie.Need-returns
 unfolding encodeState
-returns c = cc
+returns c =
+    let speed = c .before .before .before .before in
+    let attention = speed .before .before .before in
+    let loaded = attention .before in
+    let place = loaded .before .before in
+    let flags = place .before .before in
+    simp (
+      c .before .put-count42 .ensures,
+      speed .put-count2 .ensures,
+      attention .attention-byte .ensures,
+      loaded .weight-of4 .ensures .0,
+      place .put-count4 .ensures,
+      flags .weight-of3 .ensures .0,
+      flags .before .weight-of2 .ensures .0,
+      flags .before .before .weight-of .ensures .0,
+    )
 
 pub encode-state-spec : {M : Type 1} → statement M
 encode-state-spec =
     tie.close
     (tie.spec
-    cast-t15
-    cast-t17
-    cast-t19
-    cast-t21
-    (λ c κs. tt)
-    (λ c κs. tt)
-    cast-t25
-    cast-t27
-    (λ c κs. tt)
-    (λ c κs. tt)
-    add-t30
-    (λ c κs. tt)
-    add-t32
-    cast-t34
-    cast-t36
-    cast-t38
-    cast-t40
+    weight-of-requires
+    weight-of-requires-2
+    add-flags
+    weight-of-requires-3
+    add-flags-2
+    slice-aggregate-put-count4
+    put-count4-requires
+    weight-of-requires-4
+    array-write-bytes
+    attention-byte-requires
+    array-write-bytes-2
+    slice-aggregate-put-count2
+    cast-put-count2
+    put-count2-requires
+    array-write-bytes-3
+    array-write-bytes-4
+    array-write-bytes-5
+    array-write-bytes-6
+    slice-aggregate-put-count4-2
+    put-count4-requires-2
     returns)

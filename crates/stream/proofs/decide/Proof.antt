@@ -9,7 +9,7 @@ use Rattle.stream.proofs.decide.Statement.{statement}
 use Rattle.stream.proofs.decide.Tie as tie
 
 verdict-requires : tie.Need-verdict-requires
-verdict-requires c κs = let g = sound _ _ (c .before .before .pre .0 .0) in omega arith
+verdict-requires c κs = let g = sound _ _ (c .before .before .pre .header) in omega (arith, c .before .before .pre .count)
 
 enum-known-found : tie.Need-enum-known-found
 enum-known-found c = search needs
@@ -29,7 +29,7 @@ enum-told c = search needs
 work-requires : tie.Need-work-requires
 work-requires c κs =
     let start = c .before .before .before .before .before .before .before in
-    (start .pre .0, (start .pre .1, works-clear _ _ _ _ _ (c .before .before .before .before .verdict .ensures) (c .before .before .enum-told .given .1) .1))
+    (start .pre, works-clear _ _ _ _ _ (c .before .before .before .before .verdict .ensures) (c .before .before .enum-told .given .1) .1)
 
 returns : tie.Need-returns
 returns c = search was-refused

@@ -37,7 +37,16 @@ request-of-requires : tie.Need-request-of-requires
 request-of-requires c κs = search needs
 
 decide-requires : tie.Need-decide-requires
-decide-requires c κs = ((sym (c .before .before .before .before .before .before .before .before .header-of .ensures) ∙ c .before .before .before .before .before .before .h .given .1, rules-say _ _ _ (c .before .before .before .before .keeps-record-rules .ensures) (c .before .before .before .if2 .taken)), c .before .request-of .ensures .1)
+decide-requires c κs =
+    let judged = c .before .before .before .before .before .before in
+    let rules = c .before .before .before .before in
+    let r = rules-say _ _ _ (rules .keeps-record-rules .ensures) (c .before .before .before .if2 .taken) in
+    record {
+      header = sym (judged .before .before .header-of .ensures) ∙ judged .h .given .1;
+      place = r .0;
+      key = r .1;
+      count = c .before .request-of .ensures .1;
+    }
 
 same-length-2 : tie.Need-same-length-2
 same-length-2 c = search needs

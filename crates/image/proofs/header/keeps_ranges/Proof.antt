@@ -27,7 +27,9 @@ is-block-size-requires : tie.Need-is-block-size-requires
 is-block-size-requires c κs = search needs
 
 returns-6 : tie.Need-returns-6
-returns-6 c = by-size (c .before .before .before .before .before .before .before .before .before .args .h) _ (omega arith) (omega arith) (omega arith) (omega arith) (omega arith) (c .is-block-size .ensures)
+returns-6 c =
+    let b9 = c .before .before .before .before .before .before .before .before .before in
+    by-size (b9 .args .h) _ (omega arith) (omega arith) (omega arith) (omega arith) (omega arith) (c .is-block-size .ensures)
 
 pub keeps-ranges-spec : {M : Type 1} → statement M
 keeps-ranges-spec =

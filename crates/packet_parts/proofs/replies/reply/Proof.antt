@@ -12,10 +12,16 @@ least-requires : tie.Need-least-requires
 least-requires c κs = search needs
 
 slice-aggregate-copy-block : tie.Need-slice-aggregate-copy-block
-slice-aggregate-copy-block c = sym (length-take-le (c .before .before .least .result) (c .before .before .before .before .before .args .bytes .now) (omega arith))
+slice-aggregate-copy-block c =
+    let b2 = c .before .before in
+    let b5 = b2 .before .before .before in
+    sym (length-take-le (b2 .least .result) (b5 .args .bytes .now) (omega arith))
 
 copy-block-requires : tie.Need-copy-block-requires
-copy-block-requires c κs = rw (length-take-le (c .before .before .least .result) (c .before .before .before .before .before .args .bytes .now) (omega arith)) (omega arith)
+copy-block-requires c κs =
+    let b2 = c .before .before in
+    let b5 = b2 .before .before .before in
+    rw (length-take-le (b2 .least .result) (b5 .args .bytes .now) (omega arith)) (omega arith)
 
 end-requires : tie.Need-end-requires
 end-requires c κs = search needs
@@ -24,7 +30,11 @@ same-length : tie.Need-same-length
 same-length c = search needs
 
 returns : tie.Need-returns
-returns c = reply-went (c .before .before .before .before .before .before .before .before .before .args .bytes .now) (c .before .before .before .before .before .before .before .before .before .args .asked) _ _ _ _ _ (c .before .before .before .before .before .before .least .ensures) (c .end .ensures) (c .before .before .before .copy-block .ensures)
+returns c =
+    let b3 = c .before .before .before in
+    let b6 = b3 .before .before .before in
+    let b9 = b6 .before .before .before in
+    reply-went (b9 .args .bytes .now) (b9 .args .asked) _ _ _ _ _ (b6 .least .ensures) (c .end .ensures) (b3 .copy-block .ensures)
 
 pub reply-spec : {M : Type 1} → statement M
 reply-spec =

@@ -20,7 +20,11 @@ with-sense-requires : tie.Need-with-sense-requires
 with-sense-requires c κs = search needs
 
 returns : tie.Need-returns
-returns c = simp (c .with-sense .ensures, c .before .no-sense .ensures, c .before .before .with-attention .ensures, c .before .before .before .with-loaded .ensures, c .before .before .before .before .stand-at .ensures)
+returns c =
+    let b2 = c .before .before in
+    let b3 = b2 .before in
+    let b4 = b3 .before in
+    simp (c .with-sense .ensures, c .before .no-sense .ensures, b2 .with-attention .ensures, b3 .with-loaded .ensures, b4 .stand-at .ensures)
 
 pub changed-state-spec : {M : Type 1} → statement M
 changed-state-spec =

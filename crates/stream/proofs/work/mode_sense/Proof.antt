@@ -24,7 +24,13 @@ same-length : tie.Need-same-length
 same-length c = search needs
 
 returns : tie.Need-returns
-returns c = replied-as _ _ _ _ _ _ _ (c .before .before .before .before .before .mode-whole .ensures ∙ with-page (c .before .before .before .before .before .before .before .before .before .before .args .h) (c .before .before .before .before .before .before .before .before .before .before .args .state) (c .before .before .before .before .before .before .before .before .before .before .args .q) (c .before .before .before .before .before .before .if1 .taken)) (c .before .before .reply .ensures .0) (c .before .before .reply .ensures .1)
+returns c =
+    let b2 = c .before .before in
+    let b5 = b2 .before .before .before in
+    let b6 = b5 .before in
+    let b10 = b6 .before .before .before .before in
+    let e = with-page (b10 .args .h) (b10 .args .state) (b10 .args .q) (b6 .if1 .taken) in
+    replied-as _ _ _ _ _ _ _ (b5 .mode-whole .ensures ∙ e) (b2 .reply .ensures .0) (b2 .reply .ensures .1)
 
 mode-header-requires : tie.Need-mode-header-requires
 mode-header-requires c κs = search needs
@@ -39,7 +45,13 @@ same-length-2 : tie.Need-same-length-2
 same-length-2 c = search needs
 
 returns-2 : tie.Need-returns-2
-returns-2 c = replied-as _ _ _ _ _ _ _ (c .before .before .before .before .before .mode-header .ensures ∙ without-page (c .before .before .before .before .before .before .before .before .before .before .args .h) (c .before .before .before .before .before .before .before .before .before .before .args .state) (c .before .before .before .before .before .before .before .before .before .before .args .q) (c .before .before .before .before .before .before .if1 .left)) (c .before .before .reply2 .ensures .0) (c .before .before .reply2 .ensures .1)
+returns-2 c =
+    let b2 = c .before .before in
+    let b5 = b2 .before .before .before in
+    let b6 = b5 .before in
+    let b10 = b6 .before .before .before .before in
+    let e = without-page (b10 .args .h) (b10 .args .state) (b10 .args .q) (b6 .if1 .left) in
+    replied-as _ _ _ _ _ _ _ (b5 .mode-header .ensures ∙ e) (b2 .reply2 .ensures .0) (b2 .reply2 .ensures .1)
 
 pub mode-sense-spec : {M : Type 1} → statement M
 mode-sense-spec =

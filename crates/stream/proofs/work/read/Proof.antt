@@ -14,7 +14,10 @@ ending-of-requires : tie.Need-ending-of-requires
 ending-of-requires c κs = search needs
 
 end-moved-requires : tie.Need-end-moved-requires
-end-moved-requires c κs = let g = sound _ _ (c .before .before .before .before .before .before .before .pre .0) in let l = read-less _ (c .before .before .before .before .before .before .before .args .h) (c .before .before .before .before .before .before .before .args .state) _ _ _ _ (c .before .before .before .read-blocks .ensures) in omega arith
+end-moved-requires c κs =
+    let b3 = c .before .before .before in
+    let b7 = b3 .before .before .before .before in
+    let g = sound _ _ (b7 .pre .0) in let l = read-less _ (b7 .args .h) (b7 .args .state) _ _ _ _ (b3 .read-blocks .ensures) in omega arith
 
 same-length : tie.Need-same-length
 same-length c = search needs

@@ -18,7 +18,10 @@ same-length : tie.Need-same-length
 same-length c = search needs
 
 returns : tie.Need-returns
-returns c = replied-as _ _ _ _ _ _ _ (c .before .before .before .before .before .position-bytes .ensures) (c .before .before .reply .ensures .0) (c .before .before .reply .ensures .1)
+returns c =
+    let b2 = c .before .before in
+    let b5 = b2 .before .before .before in
+    replied-as _ _ _ _ _ _ _ (b5 .position-bytes .ensures) (b2 .reply .ensures .0) (b2 .reply .ensures .1)
 
 pub read-position-spec : {M : Type 1} → statement M
 read-position-spec =

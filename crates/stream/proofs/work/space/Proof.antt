@@ -29,7 +29,11 @@ end-requires-2 c κs = search needs
 
 returns-2 : tie.Need-returns-2
 unfolding spaceWork
-returns-2 c = simp (c .end2 .ensures, c .before .stand-at2 .ensures, ← c .before .before .ending-of .ensures, ← c .before .before .before .space-run .ensures, c .before .before .before .before .if1 .left)
+returns-2 c =
+    let b2 = c .before .before in
+    let b3 = b2 .before in
+    let b4 = b3 .before in
+    simp (c .end2 .ensures, c .before .stand-at2 .ensures, ← b2 .ending-of .ensures, ← b3 .space-run .ensures, b4 .if1 .left)
 
 pub space-spec : {M : Type 1} → statement M
 space-spec =

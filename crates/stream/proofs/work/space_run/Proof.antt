@@ -18,28 +18,44 @@ blocks-back-requires c κs = let g = sound _ _ (c .before .before .before .befor
 
 returns : tie.Need-returns
 unfolding spaceRun
-returns c = simp (c .blocks-back .ensures, c .before .if2 .taken, c .before .before .if1 .taken, ← c .before .before .before .is-back .ensures, ← c .before .before .before .before .magnitude-of .ensures)
+returns c =
+    let b2 = c .before .before in
+    let b3 = b2 .before in
+    let b4 = b3 .before in
+    simp (c .blocks-back .ensures, c .before .if2 .taken, b2 .if1 .taken, ← b3 .is-back .ensures, ← b4 .magnitude-of .ensures)
 
 blocks-on-requires : tie.Need-blocks-on-requires
 blocks-on-requires c κs = let g = sound _ _ (c .before .before .before .before .before .pre .0) in omega arith
 
 returns-2 : tie.Need-returns-2
 unfolding spaceRun
-returns-2 c = simp (c .blocks-on .ensures, c .before .if2 .left, c .before .before .if1 .taken, ← c .before .before .before .is-back .ensures, ← c .before .before .before .before .magnitude-of .ensures)
+returns-2 c =
+    let b2 = c .before .before in
+    let b3 = b2 .before in
+    let b4 = b3 .before in
+    simp (c .blocks-on .ensures, c .before .if2 .left, b2 .if1 .taken, ← b3 .is-back .ensures, ← b4 .magnitude-of .ensures)
 
 marks-back-requires : tie.Need-marks-back-requires
 marks-back-requires c κs = let g = sound _ _ (c .before .before .before .before .before .pre .0) in omega arith
 
 returns-3 : tie.Need-returns-3
 unfolding spaceRun
-returns-3 c = simp (c .marks-back .ensures, c .before .if3 .taken, c .before .before .if1 .left, ← c .before .before .before .is-back .ensures, ← c .before .before .before .before .magnitude-of .ensures)
+returns-3 c =
+    let b2 = c .before .before in
+    let b3 = b2 .before in
+    let b4 = b3 .before in
+    simp (c .marks-back .ensures, c .before .if3 .taken, b2 .if1 .left, ← b3 .is-back .ensures, ← b4 .magnitude-of .ensures)
 
 marks-on-requires : tie.Need-marks-on-requires
 marks-on-requires c κs = let g = sound _ _ (c .before .before .before .before .before .pre .0) in omega arith
 
 returns-4 : tie.Need-returns-4
 unfolding spaceRun
-returns-4 c = simp (c .marks-on .ensures, c .before .if3 .left, c .before .before .if1 .left, ← c .before .before .before .is-back .ensures, ← c .before .before .before .before .magnitude-of .ensures)
+returns-4 c =
+    let b2 = c .before .before in
+    let b3 = b2 .before in
+    let b4 = b3 .before in
+    simp (c .marks-on .ensures, c .before .if3 .left, b2 .if1 .left, ← b3 .is-back .ensures, ← b4 .magnitude-of .ensures)
 
 pub space-run-spec : {M : Type 1} → statement M
 space-run-spec =

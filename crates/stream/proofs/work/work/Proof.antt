@@ -4,7 +4,8 @@ use native.Mathlib.Omega.{arith}
 use Rattle.image.proofs.HeaderLaws.{sound}
 use Rattle.opcodes.specs.declared.Command.the-variants.{RequestSense, Read, Write, Inquiry, ModeSelect, ModeSense, ReadPosition}
 use Rattle.stream_parts.specs.Checks.{askedBy}
-use Rattle.stream.proofs.WorkLaws.{needed-as, was-unknown, was-tested, was-rewound, was-sensed, was-read, was-written, was-marked, was-spaced, was-asked, was-selected, was-shown, was-loaded, was-located, was-placed}
+use Rattle.stream.proofs.WorkLaws.{needed-as, was-unknown, was-tested, was-rewound, was-sensed, was-read, was-written, was-marked, was-spaced}
+use Rattle.stream.proofs.WorkLaws.{was-asked, was-selected, was-shown, was-loaded, was-located, was-placed}
 use borrow.Author.Needs.{needs}
 use Rattle.stream.proofs.work.work.Statement.{statement}
 use Rattle.stream.proofs.work.work.Tie as tie
@@ -37,7 +38,7 @@ request-sense-requires : tie.Need-request-sense-requires
 unfolding askedBy
 request-sense-requires c κs =
     let start = c .before .before .before .before .before in
-    (start .pre .0 .1 .1, needed-as _ RequestSense _ _ _ (c .before .enum-told4 .given .1) (start .pre .1 .1))
+    (start .pre .0 .key, needed-as _ RequestSense _ _ _ (c .before .enum-told4 .given .1) (start .pre .1))
 
 enum-told-5 : tie.Need-enum-told-5
 enum-told-5 c = search needs
@@ -46,7 +47,7 @@ read-requires : tie.Need-read-requires
 unfolding askedBy
 read-requires c κs =
     let start = c .before .before .before .before .before .before in
-    (start .pre .0 .0, (start .pre .0 .1 .0, (start .pre .1 .0, needed-as _ Read _ _ _ (c .before .before .enum-told5 .given .1) (start .pre .1 .1))))
+    (start .pre .0 .header, (start .pre .0 .place, (start .pre .0 .count, needed-as _ Read _ _ _ (c .before .before .enum-told5 .given .1) (start .pre .1))))
 
 enum-told-6 : tie.Need-enum-told-6
 enum-told-6 c = search needs
@@ -55,7 +56,7 @@ write-requires : tie.Need-write-requires
 unfolding askedBy
 write-requires c κs =
     let start = c .before .before .before .before .before .before in
-    (start .pre .0 .0, (start .pre .0 .1 .0, (start .pre .1 .0, needed-as _ Write _ _ _ (c .before .before .enum-told6 .given .1) (start .pre .1 .1))))
+    (start .pre .0 .header, (start .pre .0 .place, (start .pre .0 .count, needed-as _ Write _ _ _ (c .before .before .enum-told6 .given .1) (start .pre .1))))
 
 enum-told-7 : tie.Need-enum-told-7
 enum-told-7 c = search needs
@@ -76,7 +77,7 @@ inquiry-requires : tie.Need-inquiry-requires
 unfolding askedBy
 inquiry-requires c κs =
     let start = c .before .before .before .before .before in
-    needed-as _ Inquiry _ _ _ (c .before .enum-told9 .given .1) (start .pre .1 .1)
+    needed-as _ Inquiry _ _ _ (c .before .enum-told9 .given .1) (start .pre .1)
 
 enum-told-10 : tie.Need-enum-told-10
 enum-told-10 c = search needs
@@ -85,7 +86,7 @@ mode-select-requires : tie.Need-mode-select-requires
 unfolding askedBy
 mode-select-requires c κs =
     let start = c .before .before .before .before .before in
-    needed-as _ ModeSelect _ _ _ (c .before .enum-told10 .given .1) (start .pre .1 .1)
+    needed-as _ ModeSelect _ _ _ (c .before .enum-told10 .given .1) (start .pre .1)
 
 enum-told-11 : tie.Need-enum-told-11
 enum-told-11 c = search needs
@@ -94,7 +95,7 @@ mode-sense-requires : tie.Need-mode-sense-requires
 unfolding askedBy
 mode-sense-requires c κs =
     let start = c .before .before .before .before .before in
-    needed-as _ ModeSense _ _ _ (c .before .enum-told11 .given .1) (start .pre .1 .1)
+    needed-as _ ModeSense _ _ _ (c .before .enum-told11 .given .1) (start .pre .1)
 
 enum-told-12 : tie.Need-enum-told-12
 enum-told-12 c = search needs
@@ -118,8 +119,8 @@ read-position-requires : tie.Need-read-position-requires
 unfolding askedBy
 read-position-requires c κs =
     let start = c .before .before .before .before .before in
-    let g = sound _ _ (start .pre .0 .0) in
-    (omega arith, needed-as _ ReadPosition _ _ _ (c .before .enum-told14 .given .1) (start .pre .1 .1))
+    let g = sound _ _ (start .pre .0 .header) in
+    (omega arith, needed-as _ ReadPosition _ _ _ (c .before .enum-told14 .given .1) (start .pre .1))
 
 returns : tie.Need-returns
 returns c = search was-unknown

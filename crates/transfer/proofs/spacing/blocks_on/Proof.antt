@@ -47,7 +47,8 @@ loop-less c = omega arith
 loop-again : tie.Need-loop-again Inv-loop μ-loop
 loop-again c =
     let e = c .before .before in
-    (on-next _ _ _ _ _ _ _ _ (e .before .before .before .loop .inv .0) (search) (search) (e .kind-at .ensures) (c .before .is-filemark .ensures) (c .if2 .left), omega arith)
+    let i = e .before .before .before .loop .inv .0 in
+    (on-next _ _ _ _ _ _ _ _ i (search) (search) (e .kind-at .ensures) (c .before .is-filemark .ensures) (c .if2 .left), omega arith)
 
 halt-requires-3 : tie.Need-halt-requires-3 Inv-loop μ-loop
 halt-requires-3 c κs = tt

@@ -10,7 +10,8 @@ use Rattle.transfer.proofs.writing.write_filemarks.Statement.{statement
 use Rattle.transfer.proofs.writing.write_filemarks.Tie as tie
 
 abbrev Inv-loop : tie.InvT-loop
-Inv-loop image₀ kinds end n p left₀ at₀ image left at = (markFrom kinds end left at image ≡ markFrom kinds end n p image₀) × ((length image ≡ length image₀) × (at ≤ end))
+Inv-loop image₀ kinds end n p left₀ at₀ image left at =
+    (markFrom kinds end left at image ≡ markFrom kinds end n p image₀) × ((length image ≡ length image₀) × (at ≤ end))
 
 abbrev μ-loop : tie.MeasureT-loop
 μ-loop image₀ kinds end n p left₀ at₀ image left at = left
