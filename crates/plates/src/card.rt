@@ -1,5 +1,5 @@
 // What is lent to the drive, and one packet sent.
-use crate::show;
+use lines::show;
 use numbers::counts::count4;
 use numbers::sizes::least;
 use tapecard::packet_calls::tapecard_change;

@@ -1,0 +1,57 @@
+// Text and bytes on standard output.
+use crate::line::Bytes;
+use crate::line::place_of;
+use crate::line::wide;
+use libc::STDOUT_FILENO;
+use numbers::sizes::least;
+
+pub fn text(words: &[u8]) {
+    io::write_all(STDOUT_FILENO, words);
+}
+
+pub fn number(label: &[u8], n: usize) {
+    text(label);
+    io::print_decimal(STDOUT_FILENO, n as u64);
+}
+
+fn digit(n: u8) -> u8 {
+    let d = n % 16;
+    if d < 10 {
+        return b'0' + d;
+    }
+    b'A' + (d - 10)
+}
+
+pub fn byte(value: u8) {
+    let shown = [b' ', digit(value / 16), digit(value)];
+    io::write_all(STDOUT_FILENO, &shown);
+}
+
+pub fn bytes(values: &[u8]) {
+    let mut i: usize = 0;
+    while i < values.len() {
+        byte(values[i]);
+        i += 1;
+    }
+}
+
+// As many bytes as the third one says, from that place on.
+pub fn part(src: &[u8], asked: Bytes) {
+    let values = asked.values;
+    let from = least(place_of(asked), src.len());
+    let to = least(from + wide(values[2]), src.len());
+    if from <= to {
+        bytes(&src[from..to]);
+    }
+    text(b"\n");
+}
+
+// What a line says after its letter, also as a line of its own.
+pub fn said(line: &[u8], whole: bool) {
+    if 2 <= line.len() {
+        text(&line[1..]);
+    }
+    if whole {
+        text(b"\n");
+    }
+}
