@@ -1,5 +1,4 @@
-// One call sent, printed with what it is answered.
-use lines::line::wide;
+// One call sent, printed with what it is answered; the line is left open.
 use lines::show;
 use numbers::counts::count4;
 use tapecard::pulse_calls::tapecard_pulse_insert;
@@ -25,26 +24,21 @@ pub fn fresh(vendor: u16, rom: u8) -> Drive {
 // Number and level, and of a refused call whether it left the record as it was; then the drive goes on with what the call left.
 fn answered(answer: [u8; 8], before: Drive, after: [u8; 32]) -> Drive {
     let kept = before.state;
-    show::number(b": number ", wide(answer[0]));
-    show::number(b" level ", wide(answer[1]));
+    show::small(b": number ", answer[0]);
+    show::small(b" level ", answer[1]);
     if answer[0] != 0 {
-        show_kept(kept, after);
+        show::either(
+            check::same(&kept, &after),
+            b" record unchanged",
+            b" CHANGED",
+        );
     }
     Drive { state: after }
 }
 
-fn show_kept(before: [u8; 32], after: [u8; 32]) {
-    if check::same(&before, &after) {
-        show::text(b" record unchanged");
-        return;
-    }
-    show::text(b" CHANGED");
-}
-
 pub fn power_on(vendor: u16, rom: u8) -> Drive {
     show::number(b" power-on vendor ", vendor as usize);
-    show::number(b" ROM ", rom as usize);
-    show::text(b"\n");
+    show::small(b" ROM ", rom);
     fresh(vendor, rom)
 }
 
@@ -58,9 +52,7 @@ pub fn train(drive: Drive, pulses: u16, twos: u8) -> Drive {
     if twos > 0 {
         show::text(b", then");
     }
-    let next = next_bits(asked, twos);
-    show::text(b"\n");
-    next
+    next_bits(asked, twos)
 }
 
 fn next_bits(drive: Drive, twos: u8) -> Drive {
@@ -77,7 +69,7 @@ fn next_bit(drive: Drive) -> Drive {
     let mut state = drive.state;
     let mut answer = [0u8; 8];
     tapecard_pulse_train(&mut state, NEXT_BIT, &mut answer);
-    show::number(b" ", wide(answer[1]));
+    show::small(b" ", answer[1]);
     Drive { state: state }
 }
 
@@ -86,9 +78,7 @@ pub fn tick(drive: Drive) -> Drive {
     let mut answer = [0u8; 8];
     tapecard_pulse_tick(&mut state, &mut answer);
     show::text(b" tick");
-    let next = answered(answer, drive, state);
-    show::text(b"\n");
-    next
+    answered(answer, drive, state)
 }
 
 pub fn insert(drive: Drive, cartridge: [u8; 8]) -> Drive {
@@ -97,9 +87,7 @@ pub fn insert(drive: Drive, cartridge: [u8; 8]) -> Drive {
     tapecard_pulse_insert(&mut state, &cartridge, &mut answer);
     show::text(b" insertion");
     show::bytes(&cartridge);
-    let next = answered(answer, drive, state);
-    show::text(b"\n");
-    next
+    answered(answer, drive, state)
 }
 
 pub fn remove(drive: Drive) -> Drive {
@@ -107,14 +95,11 @@ pub fn remove(drive: Drive) -> Drive {
     let mut answer = [0u8; 8];
     tapecard_pulse_remove(&mut state, &mut answer);
     show::text(b" removal");
-    let next = answered(answer, drive, state);
-    show::text(b"\n");
-    next
+    answered(answer, drive, state)
 }
 
 fn show_ticks(answer: [u8; 8]) {
     show::number(b" ticks ", count4(&answer, 4));
-    show::text(b"\n");
 }
 
 pub fn wait(drive: Drive, limit: u32) -> Drive {

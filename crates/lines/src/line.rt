@@ -127,3 +127,10 @@ pub fn wide(byte: u8) -> usize
 {
     byte as usize
 }
+
+// Whether a line of this length ends with the last of so many bytes: the letter is one character, a byte three with the space before it.
+pub fn is_whole(length: usize, count: usize) -> bool
+    requires { ⌜ count ≤ 40 ⌝ }
+{
+    length == 3 * count + 1
+}

@@ -1,8 +1,10 @@
 // Text and bytes on standard output.
+ghost use Prim.Native.Nat.{_<_};
 use crate::line::Bytes;
 use crate::line::place_of;
 use crate::line::wide;
 use libc::STDOUT_FILENO;
+use numbers::flags::is_set;
 use numbers::sizes::least;
 
 pub fn text(words: &[u8]) {
@@ -12,6 +14,29 @@ pub fn text(words: &[u8]) {
 pub fn number(label: &[u8], n: usize) {
     text(label);
     io::print_decimal(STDOUT_FILENO, n as u64);
+}
+
+// A number of one byte.
+pub fn small(label: &[u8], n: u8) {
+    number(label, wide(n));
+}
+
+// The word where the bit of this weight is set.
+pub fn flag(byte: u8, weight: u8, word: &[u8])
+    requires { ⌜ 0 < weight ⌝ }
+{
+    if is_set(byte, weight) {
+        text(word);
+    }
+}
+
+// The first words where it holds, else the others.
+pub fn either(holds: bool, words: &[u8], others: &[u8]) {
+    if holds {
+        text(words);
+        return;
+    }
+    text(others);
 }
 
 fn digit(n: u8) -> u8 {
