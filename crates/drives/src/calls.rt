@@ -21,17 +21,26 @@ pub fn fresh(vendor: u16, rom: u8) -> Drive {
     Drive { state: state }
 }
 
+fn show_level(answer: [u8; 8]) {
+    show::small(b" ", answer[1]);
+}
+
+fn show_kept(before: [u8; 32], after: [u8; 32]) {
+    show::either(
+        check::same(&before, &after),
+        b" record unchanged",
+        b" CHANGED",
+    );
+}
+
 // Number and level, and of a refused call whether it left the record as it was; then the drive goes on with what the call left.
 fn answered(answer: [u8; 8], before: Drive, after: [u8; 32]) -> Drive {
     let kept = before.state;
     show::small(b": number ", answer[0]);
-    show::small(b" level ", answer[1]);
+    show::text(b" level");
+    show_level(answer);
     if answer[0] != 0 {
-        show::either(
-            check::same(&kept, &after),
-            b" record unchanged",
-            b" CHANGED",
-        );
+        show_kept(kept, after);
     }
     Drive { state: after }
 }
@@ -69,7 +78,7 @@ fn next_bit(drive: Drive) -> Drive {
     let mut state = drive.state;
     let mut answer = [0u8; 8];
     tapecard_pulse_train(&mut state, NEXT_BIT, &mut answer);
-    show::small(b" ", answer[1]);
+    show_level(answer);
     Drive { state: state }
 }
 
@@ -81,12 +90,16 @@ pub fn tick(drive: Drive) -> Drive {
     answered(answer, drive, state)
 }
 
+fn show_insertion(cartridge: [u8; 8]) {
+    show::text(b" insertion");
+    show::bytes(&cartridge);
+}
+
 pub fn insert(drive: Drive, cartridge: [u8; 8]) -> Drive {
+    show_insertion(cartridge);
     let mut state = drive.state;
     let mut answer = [0u8; 8];
     tapecard_pulse_insert(&mut state, &cartridge, &mut answer);
-    show::text(b" insertion");
-    show::bytes(&cartridge);
     answered(answer, drive, state)
 }
 

@@ -1,7 +1,6 @@
 // The record: its parts by name, or its bytes.
 use crate::calls::Drive;
 use lines::show;
-use numbers::counts::count2;
 
 fn show_motion(motion: u8) {
     match motion {
@@ -20,8 +19,8 @@ fn show_marks(marks: u8) {
 }
 
 fn show_head(state: [u8; 32]) {
-    show::number(b" S ", count2(&state, 8));
-    show::number(b" target ", count2(&state, 10));
+    show::pair(b" S ", state[8], state[9]);
+    show::pair(b" target ", state[10], state[11]);
     show::small(b" track ", state[12]);
     show::small(b" rate ", state[13]);
 }

@@ -15,6 +15,7 @@ use crate::parts;
 use lines::line::Bytes;
 use lines::line::bytes_of;
 use lines::line::is_whole;
+use lines::line::letter_of;
 use lines::line::place_of;
 use lines::line::store;
 use lines::show;
@@ -63,11 +64,6 @@ fn stored(drive: Drive, bytes: Bytes) -> Drive {
     parts::show_bytes(Drive { state: state })
 }
 
-fn said(drive: Drive, line: &[u8], whole: bool) -> Drive {
-    show::said(line, whole);
-    drive
-}
-
 fn called(drive: Drive, letter: u8, bytes: Bytes) -> Drive {
     match letter {
         b'o' => powered(bytes),
@@ -82,16 +78,6 @@ fn called(drive: Drive, letter: u8, bytes: Bytes) -> Drive {
     }
 }
 
-fn judged(drive: Drive, letter: u8, line: &[u8]) -> Drive {
-    let bytes = bytes_of(line);
-    if is_whole(line.len(), bytes.count) & has_its_bytes(letter, bytes.count) {
-        return called(drive, letter, bytes);
-    }
-    show::text(b"no line of a script: ");
-    show::text(line);
-    drive
-}
-
 // Ends the line that a call left open.
 fn closed(drive: Drive) -> Drive {
     show::text(b"\n");
@@ -99,13 +85,14 @@ fn closed(drive: Drive) -> Drive {
 }
 
 pub fn obey(drive: Drive, line: &[u8]) -> Drive {
-    if line.len() == 0 {
+    if show::said(line) {
         return drive;
     }
-    let letter = line[0];
-    match letter {
-        b'"' => said(drive, line, false),
-        b'=' => said(drive, line, true),
-        _ => closed(judged(drive, letter, line)),
+    let letter = letter_of(line);
+    let bytes = bytes_of(line);
+    if is_whole(line.len(), bytes.count) & has_its_bytes(letter, bytes.count) {
+        return closed(called(drive, letter, bytes));
     }
+    show::no_line(line);
+    drive
 }

@@ -21,6 +21,14 @@ pub fn line_end(script: &[u8], from: usize) -> usize
     i
 }
 
+// 0 where the line is empty
+pub fn letter_of(line: &[u8]) -> u8 {
+    if line.len() == 0 {
+        return 0;
+    }
+    line[0]
+}
+
 // 16 for what is no digit
 fn digit(c: u8) -> u8
     ensures { λ r. ⌜ r ≤ 16 ⌝ }

@@ -1,6 +1,7 @@
 // Text and bytes on standard output.
 ghost use Prim.Native.Nat.{_<_};
 use crate::line::Bytes;
+use crate::line::letter_of;
 use crate::line::place_of;
 use crate::line::wide;
 use libc::STDOUT_FILENO;
@@ -19,6 +20,11 @@ pub fn number(label: &[u8], n: usize) {
 // A number of one byte.
 pub fn small(label: &[u8], n: u8) {
     number(label, wide(n));
+}
+
+// A number of two bytes, the high one first.
+pub fn pair(label: &[u8], high: u8, low: u8) {
+    number(label, wide(high) * 256 + wide(low));
 }
 
 // The word where the bit of this weight is set.
@@ -71,12 +77,31 @@ pub fn part(src: &[u8], asked: Bytes) {
     text(b"\n");
 }
 
-// What a line says after its letter, also as a line of its own.
-pub fn said(line: &[u8], whole: bool) {
+fn after_letter(line: &[u8]) {
     if 2 <= line.len() {
         text(&line[1..]);
     }
-    if whole {
-        text(b"\n");
+}
+
+// Whether the line is text to print: after " as it stands, after = as a line of its own. An empty line prints nothing.
+pub fn said(line: &[u8]) -> bool {
+    match letter_of(line) {
+        0 => true,
+        b'"' => {
+            after_letter(line);
+            true
+        }
+        b'=' => {
+            after_letter(line);
+            text(b"\n");
+            true
+        }
+        _ => false,
     }
+}
+
+pub fn no_line(line: &[u8]) {
+    text(b"no line of a script: ");
+    text(line);
+    text(b"\n");
 }

@@ -9,6 +9,7 @@ use crate::card;
 use crate::card::Card;
 use lines::line::Bytes;
 use lines::line::bytes_of;
+use lines::line::letter_of;
 use lines::line::place_of;
 use lines::line::store;
 use lines::show;
@@ -66,20 +67,13 @@ fn shown_image(card: Card, bytes: Bytes) -> Card {
     card
 }
 
-fn said(card: Card, line: &[u8], whole: bool) -> Card {
-    show::said(line, whole);
-    card
-}
-
 pub fn obey(card: Card, line: &[u8]) -> Card {
-    if line.len() == 0 {
+    if show::said(line) {
         return card;
     }
-    let letter = line[0];
+    let letter = letter_of(line);
     let bytes = bytes_of(line);
     match letter {
-        b'"' => said(card, line, false),
-        b'=' => said(card, line, true),
         b'n' => card::plate(),
         b'f' => card::renew(card, false),
         b'c' => card::renew(card, true),
