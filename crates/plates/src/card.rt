@@ -1,5 +1,5 @@
 // What is lent to the drive, and one packet sent.
-use crate::show;
+use lines::show;
 use numbers::counts::count4;
 use numbers::sizes::least;
 use tapecard::packet_calls::tapecard_change;
@@ -134,9 +134,6 @@ fn show_kept(before: Card, state: [u8; 16], image: [u8; 2084], buf: [u8; 2048]) 
     let s = before.state;
     let i = before.image;
     let b = before.buf;
-    if check::same(&s, &state) & check::same(&i, &image) & check::same(&b, &buf) {
-        show::text(b" record, image and buffer unchanged");
-    } else {
-        show::text(b" CHANGED");
-    }
+    let same = check::same(&s, &state) & check::same(&i, &image) & check::same(&b, &buf);
+    show::either(same, b" record, image and buffer unchanged", b" CHANGED");
 }

@@ -2,17 +2,17 @@
 // ending of its packet section, by name (stdin), held to what 01 says (stdout).
 mod card; // card.rt: what is lent to the drive, and one packet sent
 mod script; // script.rt: a line of the script, taken apart
-mod show; // show.rt: text and bytes on standard output
 
 use card::Card;
 use libc::STDIN_FILENO;
+use lines::line::line_end;
 
 // The lines one after the other; the card goes through them.
 fn run(script: &[u8], first: Card) {
     let mut card = first;
     let mut from: usize = 0;
     while from < script.len() {
-        let to = script::line_end(script, from);
+        let to = line_end(script, from);
         card = script::obey(card, &script[from..to]);
         from = to + 1;
     }

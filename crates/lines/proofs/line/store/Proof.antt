@@ -1,12 +1,12 @@
--- `script::store` is safe and ends.
+-- `line::store` is safe and ends.
 -- Assumes nothing.
 use mathlib.Core.Path.{_≡_}
 use lib.ListN.{length}
 use Prim.Native.Nat.{_-_, _≤_}
 use borrow.Author.Needs.{needs}
 use native.Mathlib.Omega.{arith}
-use Rattle.plates.proofs.script.store.Statement.{statement}
-use Rattle.plates.proofs.script.store.Tie as tie
+use Rattle.lines.proofs.line.store.Statement.{statement}
+use Rattle.lines.proofs.line.store.Tie as tie
 
 abbrev Inv-loop : tie.InvT-loop
 Inv-loop dst₀ at values n k₀ dst k = (2 ≤ k) × (length dst ≡ length dst₀)

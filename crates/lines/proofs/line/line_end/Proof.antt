@@ -1,10 +1,10 @@
--- `script::line_end` is safe and ends.
+-- `line::line_end` is safe and ends.
 -- Assumes nothing.
 use Prim.Native.Nat.{_-_, _≤_}
 use native.Mathlib.Omega.{arith}
 use lib.ListN.{length}
-use Rattle.plates.proofs.script.line_end.Statement.{statement}
-use Rattle.plates.proofs.script.line_end.Tie as tie
+use Rattle.lines.proofs.line.line_end.Statement.{statement}
+use Rattle.lines.proofs.line.line_end.Tie as tie
 
 abbrev Inv-loop : tie.InvT-loop
 Inv-loop script from i₀ i = (from ≤ i) × (i ≤ length script)

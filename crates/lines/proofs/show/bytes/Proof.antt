@@ -3,8 +3,8 @@
 use Prim.Native.Nat.{_-_, _≤_}
 use native.Mathlib.Omega.{arith}
 use lib.ListN.{length}
-use Rattle.plates.proofs.show.bytes.Statement.{statement}
-use Rattle.plates.proofs.show.bytes.Tie as tie
+use Rattle.lines.proofs.show.bytes.Statement.{statement}
+use Rattle.lines.proofs.show.bytes.Tie as tie
 
 abbrev Inv-loop : tie.InvT-loop
 Inv-loop values i₀ i = i ≤ length values

@@ -1,10 +1,10 @@
--- `script::bytes_of` is safe and ends.
+-- `line::bytes_of` is safe and ends.
 -- Assumes nothing.
 use Prim.Native.Nat.{_-_, _≤_}
 use borrow.Author.Needs.{needs}
 use native.Mathlib.Omega.{arith}
-use Rattle.plates.proofs.script.bytes_of.Statement.{statement}
-use Rattle.plates.proofs.script.bytes_of.Tie as tie
+use Rattle.lines.proofs.line.bytes_of.Statement.{statement}
+use Rattle.lines.proofs.line.bytes_of.Tie as tie
 
 abbrev Inv-loop : tie.InvT-loop
 Inv-loop line end values₀ n₀ i₀ values n i = n ≤ 40
