@@ -25,9 +25,15 @@ fn show_level(answer: [u8; 8]) {
     show::small(b" ", answer[1]);
 }
 
-fn show_kept(before: [u8; 32], after: [u8; 32]) {
+fn show_answer(answer: [u8; 8]) {
+    show::small(b": number ", answer[0]);
+    show::small(b" level ", answer[1]);
+}
+
+fn show_kept(before: Drive, after: [u8; 32]) {
+    let kept = before.state;
     show::either(
-        check::same(&before, &after),
+        check::same(&kept, &after),
         b" record unchanged",
         b" CHANGED",
     );
@@ -35,12 +41,9 @@ fn show_kept(before: [u8; 32], after: [u8; 32]) {
 
 // Number and level, and of a refused call whether it left the record as it was; then the drive goes on with what the call left.
 fn answered(answer: [u8; 8], before: Drive, after: [u8; 32]) -> Drive {
-    let kept = before.state;
-    show::small(b": number ", answer[0]);
-    show::text(b" level");
-    show_level(answer);
+    show_answer(answer);
     if answer[0] != 0 {
-        show_kept(kept, after);
+        show_kept(before, after);
     }
     Drive { state: after }
 }
@@ -91,8 +94,7 @@ pub fn tick(drive: Drive) -> Drive {
 }
 
 fn show_insertion(cartridge: [u8; 8]) {
-    show::text(b" insertion");
-    show::bytes(&cartridge);
+    show::list(b" insertion", &cartridge);
 }
 
 pub fn insert(drive: Drive, cartridge: [u8; 8]) -> Drive {

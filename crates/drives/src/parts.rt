@@ -18,16 +18,22 @@ fn show_marks(marks: u8) {
     show::flag(marks, 16, b" owed");
 }
 
-fn show_head(state: [u8; 32]) {
+fn show_place(state: [u8; 32]) {
     show::pair(b" S ", state[8], state[9]);
     show::pair(b" target ", state[10], state[11]);
+}
+
+fn show_settings(state: [u8; 32]) {
     show::small(b" track ", state[12]);
     show::small(b" rate ", state[13]);
 }
 
-fn show_pending(state: [u8; 32]) {
+fn show_error(state: [u8; 32]) {
     show::small(b" error ", state[14]);
     show::small(b" command ", state[15]);
+}
+
+fn show_pending(state: [u8; 32]) {
     show::small(b" report ", state[17]);
     show::small(b" argument ", state[20]);
 }
@@ -35,7 +41,9 @@ fn show_pending(state: [u8; 32]) {
 // Numbers, then motion and marks by name. The items left of a report and the code of arguments are 0 where none is open or waited for.
 pub fn show_parts(drive: Drive) -> Drive {
     let state = drive.state;
-    show_head(state);
+    show_place(state);
+    show_settings(state);
+    show_error(state);
     show_pending(state);
     show_motion(state[1]);
     show_marks(state[0]);
@@ -44,7 +52,6 @@ pub fn show_parts(drive: Drive) -> Drive {
 
 pub fn show_bytes(drive: Drive) -> Drive {
     let state = drive.state;
-    show::text(b" record");
-    show::bytes(&state);
+    show::list(b" record", &state);
     drive
 }

@@ -14,12 +14,15 @@ use crate::calls::Drive;
 use crate::parts;
 use lines::line::Bytes;
 use lines::line::bytes_of;
+use lines::line::first_eight;
 use lines::line::is_whole;
 use lines::line::letter_of;
 use lines::line::place_of;
 use lines::line::store;
+use lines::line::stores_within;
 use lines::show;
-use numbers::sizes::least;
+
+const RECORD: u16 = 32;
 
 // Whether a letter has as many bytes as it takes.
 fn has_its_bytes(letter: u8, count: usize) -> bool {
@@ -35,8 +38,7 @@ fn has_its_bytes(letter: u8, count: usize) -> bool {
 }
 
 fn inserted(drive: Drive, bytes: Bytes) -> Drive {
-    let v = bytes.values;
-    calls::insert(drive, [v[0], v[1], v[2], v[3], v[4], v[5], v[6], v[7]])
+    calls::insert(drive, first_eight(bytes))
 }
 
 fn trained(drive: Drive, bytes: Bytes) -> Drive {
@@ -55,7 +57,7 @@ fn waited(drive: Drive, bytes: Bytes) -> Drive {
 
 // The bytes stand for a place (two) and what the record gets from there on, all within its 32.
 fn stored(drive: Drive, bytes: Bytes) -> Drive {
-    if place_of(bytes) + least(bytes.count, 40) > 34 {
+    if !stores_within(bytes, RECORD) {
         show::text(b"beyond the record");
         return drive;
     }
@@ -78,12 +80,6 @@ fn called(drive: Drive, letter: u8, bytes: Bytes) -> Drive {
     }
 }
 
-// Ends the line that a call left open.
-fn closed(drive: Drive) -> Drive {
-    show::text(b"\n");
-    drive
-}
-
 pub fn obey(drive: Drive, line: &[u8]) -> Drive {
     if show::said(line) {
         return drive;
@@ -91,7 +87,9 @@ pub fn obey(drive: Drive, line: &[u8]) -> Drive {
     let letter = letter_of(line);
     let bytes = bytes_of(line);
     if is_whole(line.len(), bytes.count) & has_its_bytes(letter, bytes.count) {
-        return closed(called(drive, letter, bytes));
+        let next = called(drive, letter, bytes);
+        show::text(b"\n");
+        return next;
     }
     show::no_line(line);
     drive

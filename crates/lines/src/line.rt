@@ -130,6 +130,16 @@ pub fn place_of(bytes: Bytes) -> usize
     wide(values[0]) * 256 + wide(values[1])
 }
 
+// Whether what `store` stores lies within so many bytes.
+pub fn stores_within(bytes: Bytes, size: u16) -> bool {
+    place_of(bytes) + least(bytes.count, MOST) <= size as usize + 2
+}
+
+pub fn first_eight(bytes: Bytes) -> [u8; 8] {
+    let v = bytes.values;
+    [v[0], v[1], v[2], v[3], v[4], v[5], v[6], v[7]]
+}
+
 pub fn wide(byte: u8) -> usize
     ensures { λ r. ⌜ r ≤ 255 ⌝ }
 {

@@ -66,6 +66,11 @@ pub fn bytes(values: &[u8]) {
     }
 }
 
+pub fn list(label: &[u8], values: &[u8]) {
+    text(label);
+    bytes(values);
+}
+
 // As many bytes as the third one says, from that place on.
 pub fn part(src: &[u8], asked: Bytes) {
     let values = asked.values;
@@ -86,7 +91,7 @@ fn after_letter(line: &[u8]) {
 // Whether the line is text to print: after " as it stands, after = as a line of its own. An empty line prints nothing.
 pub fn said(line: &[u8]) -> bool {
     match letter_of(line) {
-        0 => true,
+        0 => line.len() == 0,
         b'"' => {
             after_letter(line);
             true
