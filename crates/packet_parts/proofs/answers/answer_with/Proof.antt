@@ -11,7 +11,7 @@ with-sense-requires : tie.Need-with-sense-requires
 with-sense-requires c κs = search needs
 
 returns : tie.Need-returns
-returns c = cc
+returns c = simp (c .with-sense .ensures, c .before .answer-of .ensures)
 
 pub answer-with-spec : {M : Type 1} → statement M
 answer-with-spec = tie.close (tie.spec answer-of-requires with-sense-requires returns)

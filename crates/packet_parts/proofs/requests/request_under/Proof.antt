@@ -1,6 +1,5 @@
 -- `requests::request_under` meets its contract.
 -- Assumes nothing.
-use native.Mathlib.Omega.{arith}
 use Rattle.packet_parts.specs.Requests.{requestUnder}
 use borrow.Author.Needs.{needs}
 use Rattle.packet_parts.proofs.requests.request_under.Statement.{statement}
@@ -23,7 +22,7 @@ shared-slice-read-t10 c = search needs
 
 returns : tie.Need-returns
 unfolding requestUnder
-returns c = ((cc), omega arith)
+returns c = (simp (c .before .count4 .ensures .0, c .before .before .count3 .ensures .0), c .before .before .count3 .ensures .1)
 
 pub request-under-spec : {M : Type 1} → statement M
 request-under-spec =
