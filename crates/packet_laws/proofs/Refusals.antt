@@ -12,7 +12,7 @@ use Rattle.packet_parts.specs.declared.state.Verdict.{Verdict}
 use Rattle.packet_parts.specs.declared.state.Verdict.the-variants.{Works}
 use Rattle.packet_parts.specs.Answers.{Left, notTwelveBytes, shortBuffer}
 use Rattle.packet_parts.specs.Requests.{packetLength}
-use Rattle.packet_parts.specs.Shell.{Device, refuses, carriedOut, foundBy, answersTo}
+use Rattle.packet_parts.specs.Shell.{Device, refuses, carriedOut, answersTo}
 use Rattle.packet_parts.proofs.VerdictLaws.{found-early, found-short, found-clear, works-clear}
 use Rattle.packet_laws.specs.Words.{numberOf, Refusal, Due, not-twelve, bad-image, bad-record, too-short, accepted, roomFor, Unended, Passes}
 use Rattle.packet_laws.specs.Words.{Begins, Working}

@@ -2,12 +2,12 @@
 -- Assumes nothing.
 use Prim.Native.Nat.{ℕ, _+_, _-_, _≤_}
 use native.Mathlib.Omega.{arith}
-use mathlib.Core.Bool.{Bool, true, false, _&&_}
+use mathlib.Core.Bool.{true, _&&_}
 use mathlib.Core.Path.{_≡_, refl}
 use borrow.Author.Tests.{le-leb, leb-true, leb-false}
 use lib.Dec.{leb}
-use Rattle.numbers.specs.Choice.{if_then_else_}
 use Rattle.numbers.specs.Member.{isIn}
+use Rattle.numbers.proofs.Cases.{either}
 use Rattle.numbers.proofs.RuleLaws.{split}
 use Rattle.image.specs.declared.header.Header.{Header}
 use Rattle.transfer.specs.declared.Moved.{Moved}
@@ -21,7 +21,7 @@ use Rattle.packet_parts.specs.declared.state.State.{State}
 use Rattle.packet_parts.specs.Answers.{answeredWith, ends, goodStatus, checkCondition}
 use Rattle.packet_parts.proofs.VerdictLaws.{Modest}
 use Rattle.stream_parts.specs.Replies.{pastWarning}
-use Rattle.packet_parts.specs.Senses.{noSense, volumeOverflow, earlyWarning}
+use Rattle.packet_parts.specs.Senses.{noSense}
 use Rattle.packet_parts.specs.States.{speeds, highestKey, keepsRecordRules}
 use Rattle.stream.specs.Work.{endingOf, writeEnding}
 use Rattle.stream_laws.specs.Words.{residueOf}
@@ -51,12 +51,10 @@ ending-modest AtBeginning left = omega arith
 
 pub write-modest : (h : Header) (asked : ℕ) (m : Moved) → Modest (m .left) (senseOf (writeEnding h asked m))
 unfolding writeEnding
-write-modest h asked m = by (leb 1 (m .left)) (leb 1 asked && pastWarning h (m .place))
-  where
-    by : (a b : Bool) → Modest (m .left) (senseOf (if a then Check (volumeOverflow (m .left)) else if b then Check earlyWarning else Good))
-    by true b = omega arith
-    by false true = omega arith
-    by false false = omega arith
+write-modest h asked m =
+    let Told : Ending → Type 0 = λ x. Modest (m .left) (senseOf x) in
+    either Told (leb 1 (m .left)) _ _ (λ e. omega arith)
+    (λ e. either Told (leb 1 asked && pastWarning h (m .place)) _ _ (λ f. omega arith) (λ f. omega arith))
 
 -- ---- residues
 
@@ -73,13 +71,12 @@ read-residue n m e = by (m .stop) refl
 
 pub write-residue : (h : Header) (n : ℕ) (m : Moved) → Ended n m → n - m .left + residueOf (senseOf (writeEnding h n m)) ≡ n
 unfolding writeEnding
-write-residue h n m e = by (leb 1 (m .left)) (leb 1 n && pastWarning h (m .place)) refl
-  where
-    by : (a b : Bool) → leb 1 (m .left) ≡ a
-        → n - m .left + residueOf (senseOf (if a then Check (volumeOverflow (m .left)) else if b then Check earlyWarning else Good)) ≡ n
-    by true b p = let l = e .less in omega arith
-    by false true p = let z = leb-false 1 (m .left) p in omega arith
-    by false false p = let z = leb-false 1 (m .left) p in omega arith
+write-residue h n m e =
+    let Sums : Ending → Type 0 = λ x. n - m .left + residueOf (senseOf x) ≡ n in
+    let l = e .less in
+    either Sums (leb 1 (m .left)) _ _ (λ p. omega arith) (λ p.
+    let z = leb-false 1 (m .left) p in
+    either Sums (leb 1 n && pastWarning h (m .place)) _ _ (λ q. omega arith) (λ q. omega arith))
 
 -- ---- refusal 3's rules
 

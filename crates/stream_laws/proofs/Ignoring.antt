@@ -9,6 +9,7 @@ use mathlib.Core.Path.{_≡_, refl, sym, ap, _∙_}
 use lib.Dec.{eqb}
 use lib.ListN.{length}
 use Rattle.numbers.specs.Choice.{if_then_else_}
+use Rattle.numbers.proofs.Cases.{test}
 use Rattle.image.specs.declared.header.Header.{Header}
 use Rattle.image.specs.declared.header.Judged.the-variants.{Good as GoodHeader}
 use Rattle.image.specs.Elements.{holdsData, recordTo}
@@ -143,11 +144,9 @@ module _ (s t : List ℕ) (alike : AlikeBelowU s t) (st : State) where
   same-fields e = fields-are t (fieldsOf s) (alike .header ∙ good-header s e)
 
   same-rules : keepsHeaderRules t ≡ keepsHeaderRules s
-  same-rules = by (keepsHeaderRules s) refl
-    where
-      by : (b : Bool) → keepsHeaderRules s ≡ b → keepsHeaderRules t ≡ keepsHeaderRules s
-      by true e = keeps-of t (fieldsOf s) (alike .header ∙ good-header s e) ∙ sym e
-      by false e = broken-of t (alike .header ∙ broken-header s e) ∙ sym e
+  same-rules =
+      test (keepsHeaderRules s) (λ e. keeps-of t (fieldsOf s) (alike .header ∙ good-header s e) ∙ sym e)
+      (λ e. broken-of t (alike .header ∙ broken-header s e) ∙ sym e)
 
   -- the order of the checks, over the image i with the header h
   abbrev after : List ℕ → List ℕ → List ℕ → Header → Bool → Bool → Bool → Left State

@@ -7,12 +7,13 @@ use mathlib.Core.Bool.{Bool, true, false, not, _&&_, false≢true}
 use mathlib.Core.List.{List, _++_}
 use mathlib.Core.Logic.{inl, inr, ⊎-elim}
 use mathlib.Core.Path.{_≡_, refl, sym, ap, _∙_}
-use borrow.Author.Tests.{leb-true, ltb-false}
+use borrow.Author.Tests.{leb-true, ltb-false, not-false}
 use lib.Dec.{leb, ltb, eqb}
 use lib.ListN.{length, getD, length-take}
 use Rattle.numbers.specs.Choice.{if_then_else_}
 use Rattle.numbers.specs.Member.{isIn}
 use Rattle.numbers.specs.Over.{over}
+use Rattle.numbers.proofs.Cases.{either}
 use Rattle.numbers.proofs.OverLaws.{over-length, over-above}
 use Rattle.numbers.proofs.RuleLaws.{split}
 use Rattle.image.specs.declared.header.Header.{Header}
@@ -50,8 +51,8 @@ use Rattle.stream_parts.specs.Replies.{positionLength, streamInquiry, modeBytes
 use Rattle.stream.specs.Packet.{streamDevice, packetStep}
 use Rattle.stream_parts.specs.Requests.{requestOf, spaceCode, isBack, overBlocks, toEndOfData, magnitude}
 use Rattle.packet_parts.specs.Senses.{wrongList, beyondData}
-use Rattle.packet_parts.specs.States.{speeds, keepsRecordRules, atPlace, withLoaded, withSpeed}
-use Rattle.stream.specs.Work.{moves, endingOf, readEnds, readWork, writeEnding, writeEnds, writeWork, markWork, spaceRun, spaceEnds, spaceWork}
+use Rattle.packet_parts.specs.States.{speeds, keepsRecordRules, atPlace, withSpeed}
+use Rattle.stream.specs.Work.{moves, endingOf, readEnds, readWork, writeEnding, writeEnds, writeWork, markWork, spaceRun, spaceWork}
 use Rattle.stream.specs.Work.{replyWork, listSpeed, goodList, selectWork, loadWork, locateWork, workOf}
 use Rattle.packet_laws.specs.Words.{numberOf, blocksOf, bytesOf}
 use Rattle.packet_laws.proofs.Ways.{Way, cut, broken, unruly, short, ends-early, works, way}
@@ -177,17 +178,17 @@ module _ (s : List ℕ) (st : State) (q : Request) (buf : List ℕ) (good : keep
       (λ f. absurd (false≢true (sym f)))
       (λ f. absurd (false≢true f))
 
+  -- image and buffer stay, and this is the outcome
+  abbrev LeavesOnly : Outcome → Type 0
+  LeavesOnly out = Leaves s st q buf false false (done out s buf)
+
   abbrev far : ℕ
   far = magnitude n
 
   -- the way back is no longer than its two's complement
   far-most : far ≤ n
   unfolding magnitude isBack
-  far-most = by (leb (2 ^ 23) n) refl
-    where
-      by : (b : Bool) → leb (2 ^ 23) n ≡ b → (if b then 2 ^ 24 - n else n) ≤ n
-      by true e = omega (arith, leb-true (2 ^ 23) n e)
-      by false e = le-refl n
+  far-most = either (λ (k : ℕ). k ≤ n) (leb (2 ^ 23) n) _ _ (λ e. omega (arith, leb-true (2 ^ 23) n e)) (λ e. le-refl n)
 
   abbrev Spaced : Moved → Type 0
   Spaced m = (m .place ≤ h .recorded) × (m .left ≤ far)
@@ -206,16 +207,14 @@ module _ (s : List ℕ) (st : State) (q : Request) (buf : List ℕ) (good : keep
 
   spaces : (code : ℕ) → Leaves s st q buf false false (done (spaceWork s h st code n) s buf)
   unfolding spaceWork
-  spaces code = by (eqb code toEndOfData)
-    where
-      by : (a : Bool)
-          → Leaves s st q buf false false (done (if a then ends (atPlace st (h .recorded)) Good 0 0 else spaceEnds st (spaceRun s h p code n)) s buf)
-      by true = quiet (atPlace st (h .recorded)) Good 0 (le-refl (h .recorded)) (kept-rules .speed) (omega arith)
-      by false =
-          let m = spaceRun s h p code n in
-          let r = space-run code in
-          quiet (atPlace st (m .place)) (endingOf (m .stop) (m .left)) 0 (r .0) (kept-rules .speed)
-          (omega (arith, r .1, far-most, ending-modest (m .stop) (m .left)))
+  spaces code =
+      either LeavesOnly (eqb code toEndOfData) _ _
+      (λ e. quiet (atPlace st (h .recorded)) Good 0 (le-refl (h .recorded)) (kept-rules .speed) (omega arith))
+      (λ e.
+      let m = spaceRun s h p code n in
+      let r = space-run code in
+      quiet (atPlace st (m .place)) (endingOf (m .stop) (m .left)) 0 (r .0) (kept-rules .speed)
+      (omega (arith, r .1, far-most, ending-modest (m .stop) (m .left))))
 
   good-speed : goodList buf ≡ true → isIn (listSpeed buf) speeds ≡ true
   unfolding goodList
@@ -223,17 +222,12 @@ module _ (s : List ℕ) (st : State) (q : Request) (buf : List ℕ) (good : keep
 
   selects : Leaves s st q buf false false (done (selectWork st (q .length) buf) s buf)
   unfolding selectWork
-  selects = by (eqb (q .length) fullList) (goodList buf) refl
-    where
-      by : (a b : Bool) → goodList buf ≡ b
-          → Leaves s st q buf false false
-          (done
-          (if not a then ends st Good 0 (q .length) else if not b then ends st (Check wrongList) 0 0 else
-          ends (withSpeed st (listSpeed buf)) Good 0 (q .length))
-          s buf)
-      by true true e = quiet (withSpeed st (listSpeed buf)) Good (q .length) (kept-rules .place) (good-speed e) (omega arith)
-      by true false e = quiet st (Check wrongList) 0 (kept-rules .place) (kept-rules .speed) (omega arith)
-      by false b e = quiet st Good (q .length) (kept-rules .place) (kept-rules .speed) (omega arith)
+  selects =
+      either LeavesOnly (not (eqb (q .length) fullList)) _ _
+      (λ e. quiet st Good (q .length) (kept-rules .place) (kept-rules .speed) (omega arith))
+      (λ e.
+      either LeavesOnly (not (goodList buf)) _ _ (λ f. quiet st (Check wrongList) 0 (kept-rules .place) (kept-rules .speed) (omega arith))
+      (λ f. quiet (withSpeed st (listSpeed buf)) Good (q .length) (kept-rules .place) (good-speed (not-false _ f)) (omega arith)))
 
   loads : (load : Bool) → Leaves s st q buf false false (done (loadWork st load) s buf)
   unfolding loadWork
@@ -241,12 +235,10 @@ module _ (s : List ℕ) (st : State) (q : Request) (buf : List ℕ) (good : keep
 
   locates : (target : ℕ) → Leaves s st q buf false false (done (locateWork h st target) s buf)
   unfolding locateWork
-  locates target = by (ltb (h .recorded) target) refl
-    where
-      by : (a : Bool) → ltb (h .recorded) target ≡ a
-          → Leaves s st q buf false false (done (if a then ends (atPlace st (h .recorded)) (Check beyondData) 0 0 else ends (atPlace st target) Good 0 0) s buf)
-      by true e = quiet (atPlace st (h .recorded)) (Check beyondData) 0 (le-refl (h .recorded)) (kept-rules .speed) (omega arith)
-      by false e = quiet (atPlace st target) Good 0 (ltb-false (h .recorded) target e) (kept-rules .speed) (omega arith)
+  locates target =
+      either LeavesOnly (ltb (h .recorded) target) _ _
+      (λ e. quiet (atPlace st (h .recorded)) (Check beyondData) 0 (le-refl (h .recorded)) (kept-rules .speed) (omega arith))
+      (λ e. quiet (atPlace st target) Good 0 (ltb-false (h .recorded) target e) (kept-rules .speed) (omega arith))
 
   mode-length : length (modeBytes h st q) ≡ modeLength q
   mode-length = by (hasPage q)

@@ -3,13 +3,13 @@
 use Prim.Native.Nat.{ℕ, suc, _+_, _*_, _-_, _≤_, _<_}
 use native.Mathlib.Nat.{zero-add}
 use native.Mathlib.Omega.{arith}
-use mathlib.Core.Bool.{Bool, true, false}
 use mathlib.Core.List.{List}
-use mathlib.Core.Path.{_≡_, refl, sym, ap, _∙_}
+use mathlib.Core.Path.{_≡_, sym, ap, _∙_}
 use borrow.Author.Tests.{leb-true, leb-false, eqb-true, eqb-false}
 use lib.Dec.{leb, eqb}
 use lib.ListN.{length}
 use Rattle.numbers.specs.Over.{part}
+use Rattle.numbers.proofs.Cases.{test}
 use Rattle.image.specs.declared.header.Header.{Header}
 use Rattle.image.specs.declared.header.Judged.the-variants.{Good}
 use Rattle.image.specs.Elements.{holdsData, blockAt}
@@ -27,11 +27,11 @@ use Rattle.stream_parts.specs.Requests.{requestOf}
 use Rattle.stream.specs.Work.{workOf, readWork, readEnds}
 use Rattle.packet_laws.specs.Words.{numberOf, blocksOf}
 use Rattle.packet_laws.proofs.Refusals.{begins-passes}
-use Rattle.stream_laws.specs.Words.{stores, gives, IsRecorded}
+use Rattle.stream_laws.specs.Words.{stores, IsRecorded}
 use Rattle.stream_laws.specs.History.{StoresUpTo, Later, at-once, asked, replaced}
 use Rattle.stream_laws.specs.Demands.{ReadsBack, ReadGives, ReadMoves}
 use Rattle.stream_laws.proofs.Endings.{ends-is, ruly-of}
-use Rattle.stream_laws.proofs.Leaving.{Leaves, accepted-leaves}
+use Rattle.stream_laws.proofs.Leaving.{accepted-leaves}
 use Rattle.stream_laws.proofs.Refusals.{refused-keeps}
 use Rattle.stream_laws.proofs.Storing.{blocks-stored}
 use Rattle.stream_laws.proofs.Working.{step-is, room-is}
@@ -47,30 +47,23 @@ module _ (i : ℕ) (bytes : List ℕ) (s : List ℕ) (st : State) (packet buf : 
   same-image e = rw e block
 
   accepted-block : numberOf x ≡ 0 → IsRecorded (x .image) i bytes
-  accepted-block e = by (stores packet) (eqb (blocksOf x) 0) (leb (st .position) i) refl refl refl
-    where
-      w : Leaves s st (requestOf packet) buf (stores packet) (gives (requestOf packet .command)) x
-      w = accepted-leaves s st packet buf e
-
-      by : (a b c : Bool) → stores packet ≡ a → eqb (blocksOf x) 0 ≡ b → leb (st .position) i ≡ c → IsRecorded (x .image) i bytes
-      by false b c p q r = same-image (w .no-store p)
-      by true true c p q r = same-image (w .none-stored (eqb-true _ _ q))
-      by true false true p q r =
-          let n : blocksOf x ≡ 0 → ⊥ = eqb-false _ _ q in
-          let m : st .position ≤ i = leb-true _ _ r in
-          absurd (spared (record { a-store = p; some = omega arith; from = omega arith }))
-      by true false false p q r =
-          let l = leb-false _ _ r in
-          let k = w .below i l in
-          is-block _ (x .image) (withRecorded (fieldsOf s) (w .u)) i bytes (w .header) (rw (fields-are _ _ (w .header)) (omega (arith, w .reached)))
-          (ap holdsData (k .kind) ∙ block .holds) (k .bytes ∙ block .same)
+  accepted-block e =
+      let w = accepted-leaves s st packet buf e in
+      test (stores packet) (λ p. test (eqb (blocksOf x) 0) (λ q. same-image (w .none-stored (eqb-true _ _ q))) (λ q.
+      test (leb (st .position) i) (λ r.
+      let n : blocksOf x ≡ 0 → ⊥ = eqb-false _ _ q in
+      let m : st .position ≤ i = leb-true _ _ r in
+      absurd (spared (record { a-store = p; some = omega arith; from = omega arith }))) (λ r.
+      let l = leb-false _ _ r in
+      let k = w .below i l in
+      is-block _ (x .image) (withRecorded (fieldsOf s) (w .u)) i bytes (w .header) (rw (fields-are _ _ (w .header)) (omega (arith, w .reached)))
+      (ap holdsData (k .kind) ∙ block .holds) (k .bytes ∙ block .same))))
+      (λ p. same-image (w .no-store p))
 
   still-block : IsRecorded (x .image) i bytes
-  still-block = by (eqb (numberOf x) 0) refl
-    where
-      by : (a : Bool) → eqb (numberOf x) 0 ≡ a → IsRecorded (x .image) i bytes
-      by true e = accepted-block (eqb-true _ _ e)
-      by false e = same-image (refused-keeps s st packet buf (eqb-false _ _ e) .image-kept)
+  still-block =
+      test (eqb (numberOf x) 0) (λ e. accepted-block (eqb-true _ _ e))
+      (λ e. same-image (refused-keeps s st packet buf (eqb-false _ _ e) .image-kept))
 
 -- ---- a whole history
 

@@ -13,6 +13,7 @@ use Rattle.numbers.specs.Over.{part}
 use Rattle.numbers.proofs.OverLaws.{part-at}
 use Rattle.image.specs.declared.elements.Kind.{Kind}
 use Rattle.image.specs.declared.elements.Kind.the-variants.{Data, Filemark, Unreadable}
+use Rattle.numbers.proofs.Cases.{test}
 use Rattle.image.specs.declared.header.Header.{Header}
 use Rattle.image.specs.declared.header.Judged.the-variants.{Good}
 use Rattle.image.specs.Elements.{holdsData, isFilemark, kindAt}
@@ -75,15 +76,12 @@ module _ {s : List ℕ} {p n : ℕ} where
 
 -- no drive that counts only data counts more than another that stops only where 01 says
 no-more : (s : List ℕ) (p n : ℕ) (x y : Left State) → CountsData s p x → ReadEnds s p n x → ReadEnds s p n y → blocksOf x ≤ blocksOf y
-no-more s p n x y d r t = by (leb (blocksOf x) (blocksOf y)) refl
-  where
-    by : (a : Bool) → leb (blocksOf x) (blocksOf y) ≡ a → blocksOf x ≤ blocksOf y
-    by true e = leb-true _ _ e
-    by false e =
-        let l : blocksOf y < blocksOf x = leb-false _ _ e in
-        let w = read-within r in
-        let b = d (blocksOf y) l in
-        absurd (not-data t (omega arith) (b .before) (b .holds))
+no-more s p n x y d r t =
+    test (leb (blocksOf x) (blocksOf y)) (λ e. leb-true _ _ e) (λ e.
+    let l : blocksOf y < blocksOf x = leb-false _ _ e in
+    let w = read-within r in
+    let b = d (blocksOf y) l in
+    absurd (not-data t (omega arith) (b .before) (b .holds)))
 
 -- ---- one answer and one record
 
@@ -111,16 +109,14 @@ left-of answer state image buf = record { answer = answer; state = state; image 
 -- the bytes of one block more
 block-more : (size k : ℕ) (xs ys : List ℕ) → part xs (k * size) size ≡ part ys (k * size) size
     → ((i : ℕ) → i < k * size → getD xs i 0 ≡ getD ys i 0) → (i : ℕ) → i < suc k * size → getD xs i 0 ≡ getD ys i 0
-block-more size k xs ys e before i l = by (leb (k * size) i) refl
-  where
-    by : (a : Bool) → leb (k * size) i ≡ a → getD xs i 0 ≡ getD ys i 0
-    by true f =
-        let m : k * size ≤ i = leb-true _ _ f in
-        let z : k * size + (i - k * size) ≡ i = omega arith in
-        let x = part-at xs (k * size) size (i - k * size) (omega arith) in
-        let y = part-at ys (k * size) size (i - k * size) (omega arith) in
-        sym (rw z at x) ∙ ap (λ (b : List ℕ). getD b (i - k * size) 0) e ∙ rw z at y
-    by false f = before i (leb-false _ _ f)
+block-more size k xs ys e before i l =
+    test (leb (k * size) i) (λ f.
+    let m : k * size ≤ i = leb-true _ _ f in
+    let z : k * size + (i - k * size) ≡ i = omega arith in
+    let x = part-at xs (k * size) size (i - k * size) (omega arith) in
+    let y = part-at ys (k * size) size (i - k * size) (omega arith) in
+    sym (rw z at x) ∙ ap (λ (b : List ℕ). getD b (i - k * size) 0) e ∙ rw z at y)
+    (λ f. before i (leb-false _ _ f))
 
 blocks-same : (size : ℕ) (xs ys : List ℕ) (k : ℕ) → ((j : ℕ) → j < k → part xs (j * size) size ≡ part ys (j * size) size)
     → (i : ℕ) → i < k * size → getD xs i 0 ≡ getD ys i 0
@@ -246,15 +242,11 @@ module _ (Holds : List ℕ → ℕ → Type 0) (each : ℕ) (s : List ℕ) (st :
             (g .bytes ∙ ap (λ (k : ℕ). k * each) (told .1) ∙ sym (g' .bytes));
         state = one-state;
         buf = g .buf-kept ∙ sym (g' .buf-kept);
-        images = by (leb 1 (blocksOf x)) refl;
+        images = test (leb 1 (blocksOf x)) (λ e. one-image (leb-true 1 (blocksOf x) e)) (λ e.
+            let m = leb-false 1 (blocksOf x) e in
+            rw (g .image-kept (omega arith), g' .image-kept (omega (arith, told .1)))
+            (record { header = refl; elements = λ i l. record { kind = refl; bytes = λ d. refl } }));
       }
-    where
-      by : (a : Bool) → leb 1 (blocksOf x) ≡ a → AlikeBelowU (x .image) (y .image)
-      by true e = one-image (leb-true 1 (blocksOf x) e)
-      by false e =
-          let m = leb-false 1 (blocksOf x) e in
-          rw (g .image-kept (omega arith), g' .image-kept (omega (arith, told .1)))
-          (record { header = refl; elements = λ i l. record { kind = refl; bytes = λ d. refl } })
 
 blocks-alike : (p size : ℕ) (buf t t' : List ℕ) (j : ℕ) → fieldsOf t' ≡ fieldsOf t → IsRecorded t (p + j) (part buf (j * size) size)
     → IsRecorded t' (p + j) (part buf (j * size) size) → ReadsSame (fieldsOf t) t t' (p + j)

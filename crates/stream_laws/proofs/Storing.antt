@@ -3,14 +3,14 @@
 use Prim.Native.Nat.{ℕ, _+_, _*_, _-_, _≤_, _<_}
 use native.Mathlib.Nat.{le-refl, zero-add}
 use native.Mathlib.Omega.{arith}
-use mathlib.Core.Bool.{Bool, true, false}
 use mathlib.Core.List.{List}
-use mathlib.Core.Path.{_≡_, refl, ap, _∙_}
+use mathlib.Core.Path.{_≡_, ap, _∙_}
 use borrow.Author.Tests.{eqb-true, eqb-false}
 use lib.Dec.{eqb}
 use lib.ListN.{length}
 use Rattle.numbers.specs.Over.{part}
 use Rattle.image.specs.declared.elements.Kind.the-variants.{Filemark}
+use Rattle.numbers.proofs.Cases.{test}
 use Rattle.image.specs.declared.header.Header.{Header}
 use Rattle.image.specs.declared.header.Judged.the-variants.{Good}
 use Rattle.image.specs.Elements.{holdsData, recordTo}
@@ -95,8 +95,6 @@ marks-stored s st packet buf b c j n =
     rw e (marked s st (requestOf packet) buf (good-header s (p .good)) (ruly-of _ _ (p .ruly) .place) j (rw e at n))
 
 pub none-stored : NoneStored
-none-stored s st packet buf e = by (eqb (numberOf (packetStep s st packet buf)) 0) refl
-  where
-    by : (a : Bool) → eqb (numberOf (packetStep s st packet buf)) 0 ≡ a → packetStep s st packet buf .image ≡ s
-    by true f = accepted-leaves s st packet buf (eqb-true _ _ f) .none-stored e
-    by false f = refused-keeps s st packet buf (eqb-false _ _ f) .image-kept
+none-stored s st packet buf e =
+    test (eqb (numberOf (packetStep s st packet buf)) 0) (λ f. accepted-leaves s st packet buf (eqb-true _ _ f) .none-stored e)
+    (λ f. refused-keeps s st packet buf (eqb-false _ _ f) .image-kept)

@@ -1,7 +1,7 @@
 -- What each command of the stream device asks before its work.
 -- Assumes nothing.
 use Prim.Native.Nat.{ℕ, min}
-use mathlib.Core.Bool.{Bool, true, false, not, _&&_, _||_}
+use mathlib.Core.Bool.{Bool, false, not, _&&_, _||_}
 use Rattle.numbers.specs.Choice.{_≡ᵇ_}
 use Rattle.image.specs.declared.header.Header.{Header}
 use Rattle.opcodes.specs.declared.Command.{Command}
