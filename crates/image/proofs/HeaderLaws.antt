@@ -12,6 +12,7 @@ use lib.ListN.{length, getD}
 use Rattle.numbers.specs.Counts.{countAt}
 use Rattle.numbers.specs.Member.{isIn}
 use Rattle.numbers.specs.RuleList.{allHold, Each}
+use Rattle.numbers.proofs.Cases.{or-by}
 use Rattle.numbers.proofs.RuleLaws.{split, each-of, pass}
 use Rattle.numbers.proofs.CountLaws.{count-by-bytes}
 use Rattle.image.specs.declared.header.Header.{Header}
@@ -46,12 +47,9 @@ pub ruleset ways = (good, bad-places, bad-ranges, bad-fixed)
 
 sized : (b : ℕ) → isIn b blockSizes ≡ true → (512 ≤ b) × (b ≤ 1024)
 unfolding isIn
-sized b e = by-size (eqb 512 b) (eqb 1024 b) refl refl e
-  where
-    by-size : (x y : Bool) → eqb 512 b ≡ x → eqb 1024 b ≡ y → (x || (y || false)) ≡ true → (512 ≤ b) × (b ≤ 1024)
-    by-size true y p q e = let g = eqb-true 512 b p in omega arith
-    by-size false true p q e = let g = eqb-true 1024 b q in omega arith
-    by-size false false p q e = absurd (false≢true e)
+sized b e =
+    or-by (eqb 512 b) (eqb 1024 b || false) e (λ p. let g = eqb-true 512 b p in omega arith)
+    (λ q. or-by (eqb 1024 b) false q (λ p. let g = eqb-true 1024 b p in omega arith) (λ f. absurd (false≢true f)))
 
 pub has-header : (s : List ℕ) (a : Bool) → a ≡ allHold (fixedBytes s) → a ≡ true → 32 ≤ length s
 has-header s a p q = each-of (fixedBytes s) (sym p ∙ q) .0

@@ -16,6 +16,7 @@ use borrow.Rule.Slice.PartMut.{midOf, putMid}
 use Rattle.numbers.specs.Choice.{if_then_else_}
 use Rattle.numbers.specs.Counts.{countAt, putCount}
 use Rattle.numbers.specs.Over.{over, part}
+use Rattle.numbers.proofs.Cases.{test, either}
 use Rattle.numbers.proofs.CountLaws.{length-put-count, put-count-below, put-count-above, count-read-back, count-by-bytes}
 use Rattle.numbers.proofs.OverLaws.{over-length, over-below, over-above, over-part, part-same, copied-over}
 use Rattle.image.specs.declared.header.Header.{Header}
@@ -35,11 +36,7 @@ laid-so s size kinds blocks i a off src ys q e =
     ap (λ (w : List ℕ). set w (kinds + i) 1) (copied-over (blocks + a) off size s src ys e ∙ ap (λ (m : ℕ). over s (blocks + m) (part src off size)) q)
 
 apart : (j i : ℕ) → (j ≡ i → ⊥) → (j < i) ⊎ (i < j)
-apart j i n = by (ltb j i) refl
-  where
-    by : (t : Bool) → ltb j i ≡ t → (j < i) ⊎ (i < j)
-    by true e = inl (ltb-true j i e)
-    by false e = let g = ltb-false j i e in inr (omega (arith, n))
+apart j i n = test (ltb j i) (λ e. inl (ltb-true j i e)) (λ e. let g = ltb-false j i e in inr (omega (arith, n)))
 
 -- ---- one element laid
 
@@ -231,54 +228,37 @@ module _ (u p place : ℕ) where
 
   pub after-reached : p ≤ u → place ≤ recordedAfter u p place
   unfolding recordedAfter
-  after-reached l = by (ltb p place) refl
-    where
-      by : (t : Bool) → ltb p place ≡ t → place ≤ (if t then place else u)
-      by true e = le-refl place
-      by false e = let g = ltb-false p place e in omega arith
+  after-reached l =
+      either (λ (x : ℕ). place ≤ x) (ltb p place) place u (λ e. le-refl place) (λ e. let g = ltb-false p place e in omega arith)
 
   pub after-either : (i : ℕ) → i < recordedAfter u p place → (i < u) ⊎ (i < place)
   unfolding recordedAfter
-  after-either i = by (ltb p place)
-    where
-      by : (t : Bool) → i < (if t then place else u) → (i < u) ⊎ (i < place)
-      by true l = inr l
-      by false l = inl l
+  after-either i =
+      either (λ (x : ℕ). i < x → (i < u) ⊎ (i < place)) (ltb p place) place u (λ e l. inr l) (λ e l. inl l)
 
 module _ (s : List ℕ) (p place : ℕ) where
-  pub record-stored : p < place → recordTo s p place ≡ putCount s 8 4 place
-  unfolding recordTo
-  record-stored l = rw (lt-ltb p place l)
-
   pub record-none : place ≤ p → recordTo s p place ≡ s
   unfolding recordTo
   record-none l = rw (le-ltb p place l)
 
   pub record-length : length (recordTo s p place) ≡ length s
   unfolding recordTo
-  record-length = by (ltb p place)
-    where
-      by : (t : Bool) → length (if t then putCount s 8 4 place else s) ≡ length s
-      by true = length-put-count s 8 4 place
-      by false = refl
+  record-length =
+      let P : List ℕ → Type 0 = λ t. length t ≡ length s in
+      either P (ltb p place) (putCount s 8 4 place) s (λ e. length-put-count s 8 4 place) (λ e. refl)
 
   -- every byte but U's four
   pub record-apart : (m : ℕ) → Outside 8 4 m → getD (recordTo s p place) m 0 ≡ getD s m 0
   unfolding recordTo
-  record-apart m o = by (ltb p place)
-    where
-      by : (t : Bool) → getD (if t then putCount s 8 4 place else s) m 0 ≡ getD s m 0
-      by true = ⊎-elim (λ l. put-count-below s 8 4 place m l) (λ l. put-count-above s 8 4 place m l) o
-      by false = refl
+  record-apart m o =
+      let P : List ℕ → Type 0 = λ t. getD t m 0 ≡ getD s m 0 in
+      either P (ltb p place) (putCount s 8 4 place) s
+      (λ e. ⊎-elim (λ l. put-count-below s 8 4 place m l) (λ l. put-count-above s 8 4 place m l) o) (λ e. refl)
 
 module _ (s : List ℕ) (h : Header) (good : headerOf s ≡ Good h) (p place : ℕ) (within : place ≤ h .capacity) where
   pub record-header : headerOf (recordTo s p place) ≡ Good (withRecorded h (recordedAfter (h .recorded) p place))
   unfolding recordTo recordedAfter
-  record-header = by (ltb p place)
-    where
-      by : (t : Bool) → headerOf (if t then putCount s 8 4 place else s) ≡ Good (withRecorded h (if t then place else h .recorded))
-      by true = noted-header s h good place within
-      by false = good
+  record-header = test (ltb p place) (λ e. rw e (noted-header s h good place within)) (λ e. rw e good)
 
   pub record-kind : (j : ℕ) → kindAt (recordTo s p place) (h .kinds) j ≡ kindAt s (h .kinds) j
   unfolding kindAt

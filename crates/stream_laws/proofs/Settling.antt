@@ -29,7 +29,7 @@ use Rattle.packet_parts.specs.States.{atPlace, withSense}
 use Rattle.packet_laws.specs.Words.{statusOf, blocksOf, bytesOf}
 use Rattle.stream_parts.specs.Requests.{requestOf}
 use Rattle.stream.specs.Packet.{packetStep}
-use Rattle.stream_laws.specs.Words.{BeginsWork, Moves, by-read, by-write, by-filemarks, Stores, stores-blocks, stores-filemarks, storesOn, stores, gives}
+use Rattle.stream_laws.specs.Words.{BeginsWork, Moves, by-read, by-write, by-filemarks, storesOn, stores, gives}
 use Rattle.stream_laws.specs.Words.{IsRecorded, IsElement, AlikeBelowU, CountsData, GoodRead, GoodWrite, SameBelowU}
 use Rattle.stream_laws.specs.Words.{ReadWay, all-copied, met-filemark, met-bad-block, met-end, ReadEnds}
 use Rattle.stream_laws.specs.Words.{WriteWay, all-stored, past-warning, met-capacity}
@@ -262,7 +262,7 @@ marks-alike p t t' j e a b =
     record { kind = k ∙ sym (a .1); bytes = λ d. absurd (false≢true (sym (ap holdsData (a .1)) ∙ d)) }
 
 module _ (Holds : List ℕ → ℕ → Type 0) (each : ℕ) (s : List ℕ) (st : State) (packet buf : List ℕ) (b : BeginsWork s st packet buf)
-    (c : Stores (requestOf packet .command)) (storing : stores packet ≡ true) (giving : gives (requestOf packet .command) ≡ false)
+    (storing : stores packet ≡ true) (giving : gives (requestOf packet .command) ≡ false)
     (moving : Moves (requestOf packet .command))
     (stored : (j : ℕ) → j < blocksOf (packetStep s st packet buf) → Holds (packetStep s st packet buf .image) j)
     (bytes : bytesOf (packetStep s st packet buf) ≡ blocksOf (packetStep s st packet buf) * each) where
@@ -272,7 +272,7 @@ module _ (Holds : List ℕ → ℕ → Type 0) (each : ℕ) (s : List ℕ) (st :
       let w = stays-good s st packet buf (b .not-refused) in
       record {
         accepted = b .not-refused;
-        ends = write-tells-why s st packet buf b c;
+        ends = write-tells-why s st packet buf b storing;
         stored = stored;
         recorded = λ l. w .1 ∙ ap (λ (u : ℕ). withRecorded (fieldsOf s) u) (k .recorded-new storing l);
         bytes = bytes;
@@ -289,10 +289,10 @@ pub write-settled : WriteSettled
 write-settled =
     record {
       blocks-good = λ s st packet buf b c.
-          good-write _ (fieldsOf s .size) s st packet buf b (rw c stores-blocks) (ap storesOn c) (ap gives c) (rw c by-write)
+          good-write _ (fieldsOf s .size) s st packet buf b (ap storesOn c) (ap gives c) (rw c by-write)
           (blocks-stored s st packet buf b c) (bytes-are-blocks .write s st packet buf b c);
       marks-good = λ s st packet buf b c.
-          good-write _ 0 s st packet buf b (rw c stores-filemarks) (ap storesOn c) (ap gives c) (rw c by-filemarks)
+          good-write _ 0 s st packet buf b (ap storesOn c) (ap gives c) (rw c by-filemarks)
           (marks-stored s st packet buf b c) (bytes-are-blocks .filemarks s st packet buf b c ∙ omega arith);
       blocks-one = λ s st n buf x y g g'.
           same-below _ (fieldsOf s .size) s st n buf (blocks-alike (st .position) (fieldsOf s .size) buf) x y g g';

@@ -28,12 +28,12 @@ use Rattle.packet_laws.proofs.Refusals.{begins-passes, begins-work}
 use Rattle.stream_parts.specs.Requests.{requestOf}
 use Rattle.stream.specs.Packet.{streamDevice}
 use Rattle.stream.specs.Work.{endingOf, readEnds, readWork, writeEnding, writeEnds, writeWork, markWork, workOf}
-use Rattle.stream_laws.specs.Words.{Moves, by-read, by-write, by-filemarks, Stores, stores-blocks, stores-filemarks, passedBeside}
+use Rattle.stream_laws.specs.Words.{Moves, by-read, by-write, by-filemarks, storesOn, passedBeside}
 use Rattle.stream_laws.specs.Words.{ReadWay, all-copied, met-filemark, met-bad-block, met-end, ReadEnds}
 use Rattle.stream_laws.specs.Words.{WriteWay, all-stored, past-warning, met-capacity, WriteEnds}
 use Rattle.stream_laws.specs.Demands.{ReadTellsWhy, WriteTellsWhy, ReadStands, WriteStands, BytesAreBlocks, RecordKept}
 use Rattle.stream_laws.proofs.Endings.{senseOf, statusFor, ends-is, ruly-of}
-use Rattle.stream_laws.proofs.Working.{step-is}
+use Rattle.stream_laws.proofs.Working.{step-is, by-store}
 
 -- ---- the way of each run
 
@@ -86,12 +86,15 @@ module _ (s : List ℕ) (st : State) (q : Request) (buf : List ℕ) where
       let run = read-run s (h .size) (h .kinds) (h .blocks) (h .recorded) (q .count) 0 (st .position) buf in
       rw ends-is (read-way s (st .position) (q .count) _ (read-stops s (h .kinds) (h .recorded) (h .size) (h .blocks) run l))
 
-  write-told : st .position ≤ h .capacity → {c : Command} → Stores c → WriteEnds s (st .position) (q .count) (workOf c s h st q buf)
-  unfolding workOf writeWork markWork writeEnds
-  write-told l stores-blocks =
+  write-told : st .position ≤ h .capacity → WriteEnds s (st .position) (q .count) (workOf Write s h st q buf)
+  unfolding workOf writeWork writeEnds
+  write-told l =
       let run = lay-run (blockOf (h .size) (h .kinds) (h .blocks) buf) (h .size) (h .capacity) (q .count) 0 (st .position) s in
       rw ends-is (write-way h (st .position) (q .count) _ (lay-stops (h .capacity) _ _ run l))
-  write-told l stores-filemarks =
+
+  marks-told : st .position ≤ h .capacity → WriteEnds s (st .position) (q .count) (workOf WriteFilemarks s h st q buf)
+  unfolding workOf markWork writeEnds
+  marks-told l =
       let run = lay-run (markOf (h .kinds)) 0 (h .capacity) (q .count) 0 (st .position) s in
       rw ends-is (write-way h (st .position) (q .count) _ (lay-stops (h .capacity) _ _ run l))
 
@@ -106,7 +109,10 @@ write-tells-why s st packet buf b c =
     let p = begins-passes streamDevice s st packet buf b in
     let r = ruly-of _ _ (p .ruly) .place in
     let g = sound s (fieldsOf s) (good-header s (p .good)) in
-    rw (begins-work streamDevice s st packet buf b) (write-told s st (requestOf packet) buf (omega arith) c)
+    let l : st .position ≤ fieldsOf s .capacity = omega arith in
+    let q = requestOf packet in
+    let Told : Command → Type 0 = λ x. WriteEnds s (st .position) (q .count) (workOf x s (fieldsOf s) st q buf) in
+    rw (begins-work streamDevice s st packet buf b) (by-store Told (write-told s st q buf l) (marks-told s st q buf l) (q .command) c)
 
 -- ---- where the drive stands
 

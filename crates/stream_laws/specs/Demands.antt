@@ -22,7 +22,7 @@ use Rattle.stream_parts.specs.Requests.{requestOf}
 use Rattle.stream.specs.Packet.{FreshPromise, ChangedPromise, PacketPromise, streamDevice, packetStep}
 use Rattle.stream_laws.specs.History.{Later}
 use Rattle.stream_laws.specs.Plates.{unreadableAtTwo, standing, sent, readTwo, allAgree, plates, BeginsAndMoves}
-use Rattle.stream_laws.specs.Words.{residueOf, BeginsWork, Moves, Stores, IsRecorded, IsElement, EveryReadGives, Kept, AlikeBelowU}
+use Rattle.stream_laws.specs.Words.{residueOf, BeginsWork, Moves, stores, IsRecorded, IsElement, EveryReadGives, Kept, AlikeBelowU}
 use Rattle.stream_laws.specs.Words.{ReadEnds, WriteEnds, passedBeside, GoodRead, BlocksGood, MarksGood, SameBelowU}
 
 -- What every packet device promises: "1: packet is not 12 bytes", whatever the image, the record and the buffer; nothing changes.
@@ -57,7 +57,7 @@ ReadTellsWhy =
 -- "At P = C: stop": a WRITE or WRITE FILEMARK that begins stores all N, or so many that it stands at C, and ends with the sense that 01 has for it.
 abbrev pub WriteTellsWhy : Type 0
 WriteTellsWhy =
-    (s : List ℕ) (st : State) (packet buf : List ℕ) → BeginsWork s st packet buf → Stores (requestOf packet .command)
+    (s : List ℕ) (st : State) (packet buf : List ℕ) → BeginsWork s st packet buf → stores packet ≡ true
     → WriteEnds s (st .position) (requestOf packet .count) (packetStep s st packet buf)
 
 -- "Data: copied, P + 1. Filemark: P + 1 .. Unreadable: P + 1": where a READ leaves the drive can be told from its answer and sense alone.
@@ -70,7 +70,7 @@ ReadStands =
 -- "bytes and kind 1 stored, P + 1", "filemarks by WRITE's rules": P plus the blocks told.
 abbrev pub WriteStands : Type 0
 WriteStands =
-    (s : List ℕ) (st : State) (packet buf : List ℕ) → BeginsWork s st packet buf → Stores (requestOf packet .command)
+    (s : List ℕ) (st : State) (packet buf : List ℕ) → BeginsWork s st packet buf → stores packet ≡ true
     → packetStep s st packet buf .state .position ≡ st .position + blocksOf (packetStep s st packet buf)
 
 -- "bytes are those filled or taken in the data buffer": B for each block read or written, none for a filemark.

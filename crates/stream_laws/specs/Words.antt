@@ -41,11 +41,6 @@ pub data Moves : Command → Type 0 where
   by-write : Moves Write
   by-filemarks : Moves WriteFilemarks
 
--- those of them that store
-pub data Stores : Command → Type 0 where
-  stores-blocks : Stores Write
-  stores-filemarks : Stores WriteFilemarks
-
 -- the commands that store on the cartridge: 0Ah, 10h
 abbrev pub storesOn : Command → Bool
 storesOn Unknown = false
