@@ -8,14 +8,14 @@ use native.Mathlib.Omega.{arith}
 use borrow.Author.Tests.{eqb-true, leb-true, ltb-true}
 use Rattle.numbers.specs.Choice.{_≡ᵇ_}
 use Rattle.numbers.specs.Counts.{countBytes}
-use Rattle.pulse_parts.specs.declared.arguments.Waiting.{Waiting}
-use Rattle.pulse_parts.specs.declared.arguments.Waiting.the-variants.{Nothing, For}
+use Rattle.pulse_codes.specs.declared.arguments.Waiting.{Waiting}
+use Rattle.pulse_codes.specs.declared.arguments.Waiting.the-variants.{Nothing, For}
+use Rattle.pulse_codes.specs.Arguments.{highestRate, needed, waitingFits}
+use Rattle.pulse_codes.specs.Codes.{seekTrack, selectRate, skipReverse, skipForward, skipExtendedReverse, skipExtendedForward}
+use Rattle.pulse_codes.specs.Errors.{admittedErrors}
 use Rattle.pulse_parts.specs.declared.cartridge.Cartridge.{Cartridge}
 use Rattle.pulse_parts.specs.declared.head.Motion.{Motion}
 use Rattle.pulse_parts.specs.declared.head.Motion.the-variants.{Still, Run, Load}
-use Rattle.pulse_parts.specs.Arguments.{highestRate, needed, waitingFits}
-use Rattle.pulse_parts.specs.Codes.{seekTrack, selectRate, skipReverse, skipForward, skipExtendedReverse, skipExtendedForward}
-use Rattle.pulse_parts.specs.Errors.{admittedErrors}
 use Rattle.pulse_parts.specs.Reports.{mostItems}
 use Rattle.pulse.specs.declared.drive.Drive.{Drive}
 use Rattle.pulse.specs.Rules.{isFree, keepsRules, maxFormat, maxKind, maxTracks}

@@ -14,16 +14,16 @@ use Rattle.numbers.proofs.Cases.{ands}
 use Rattle.packet_parts.specs.declared.state.Attention.{Attention}
 use Rattle.packet_parts.specs.declared.state.Sense.{Sense}
 use Rattle.packet_parts.specs.declared.state.State.{State}
-use Rattle.pulse_parts.specs.declared.arguments.Waiting.{Waiting}
-use Rattle.pulse_parts.specs.declared.arguments.Waiting.the-variants.{Nothing, For}
+use Rattle.pulse_codes.specs.declared.arguments.Waiting.{Waiting}
+use Rattle.pulse_codes.specs.declared.arguments.Waiting.the-variants.{Nothing, For}
+use Rattle.pulse_codes.specs.Arguments.{needed, waitingFits}
+use Rattle.pulse_codes.specs.Codes.{seekTrack, selectRate, skipReverse, skipForward, skipExtendedReverse, skipExtendedForward}
 use Rattle.pulse_parts.specs.declared.cartridge.Cartridge.{Cartridge}
 use Rattle.pulse_parts.specs.declared.fault.Fault.{Fault}
 use Rattle.pulse_parts.specs.declared.head.Head.{Head}
 use Rattle.pulse_parts.specs.declared.head.Motion.{Motion}
 use Rattle.pulse_parts.specs.declared.marks.Marks.{Marks}
 use Rattle.pulse_parts.specs.declared.reports.Report.{Report}
-use Rattle.pulse_parts.specs.Arguments.{needed, waitingFits}
-use Rattle.pulse_parts.specs.Codes.{seekTrack, selectRate, skipReverse, skipForward, skipExtendedReverse, skipExtendedForward}
 use Rattle.pulse.specs.Drives.{driveOf}
 use Rattle.pulse.specs.Rules.{isFree}
 use Rattle.pulse_laws.proofs.Rules.{Cart, full, bare, to-rules}

@@ -8,21 +8,21 @@ use native.Mathlib.Omega.{arith}
 use borrow.Author.Tests.{ne-eqb, leb-true, leb-false, ltb-true, ltb-false, not-false}
 use Rattle.numbers.specs.Choice.{_≡ᵇ_, _<ᵇ_, _≤ᵇ_}
 use Rattle.numbers.proofs.Cases.{ands, either, test}
-use Rattle.pulse_parts.specs.declared.arguments.Waiting.{Waiting}
-use Rattle.pulse_parts.specs.declared.arguments.Waiting.the-variants.{Nothing, For}
+use Rattle.pulse_codes.specs.declared.arguments.Waiting.{Waiting}
+use Rattle.pulse_codes.specs.declared.arguments.Waiting.the-variants.{Nothing, For}
+use Rattle.pulse_codes.specs.Arguments.{highestNibble, highestRate, inRange, isWaiting, joined, needed, nibbleOf}
+use Rattle.pulse_codes.specs.Codes.{ignored, isReport, logicalForward, needsCartridge, needsReference, pause, physicalForward, physicalReverse}
+use Rattle.pulse_codes.specs.Codes.{reportConfiguration, reportError, reportNextBit, reportRom, reportStatus, reportVendor, seekLoadPoint, seekTrack}
+use Rattle.pulse_codes.specs.Codes.{selectRate, skipExtendedReverse, skipReverse, softReset, stopTape, stopsMotion, supported}
+use Rattle.pulse_codes.specs.Errors.{admittedErrors, cartridgeMissing, illegalInReport, illegalTrack, newCartridgePending, noError, notReady}
+use Rattle.pulse_codes.specs.Errors.{notReferenced, softwareReset, undefinedCommand}
 use Rattle.pulse_parts.specs.declared.cartridge.Cartridge.{Cartridge}
 use Rattle.pulse_parts.specs.declared.fault.Fault.{Fault}
 use Rattle.pulse_parts.specs.declared.head.Head.{Head}
 use Rattle.pulse_parts.specs.declared.marks.Marks.{Marks}
 use Rattle.pulse_parts.specs.declared.reports.Report.{Report}
-use Rattle.pulse_parts.specs.Arguments.{highestNibble, highestRate, inRange, isWaiting, joined, needed, nibbleOf}
 use Rattle.pulse_parts.specs.Cartridges.{noCartridge}
-use Rattle.pulse_parts.specs.Codes.{ignored, isReport, logicalForward, needsCartridge, needsReference, pause, physicalForward, physicalReverse}
-use Rattle.pulse_parts.specs.Codes.{reportConfiguration, reportError, reportNextBit, reportRom, reportStatus, reportVendor, seekLoadPoint, seekTrack}
-use Rattle.pulse_parts.specs.Codes.{selectRate, skipExtendedReverse, skipReverse, softReset, stopTape, stopsMotion, supported}
-use Rattle.pulse_parts.specs.Errors.{admittedErrors, cartridgeMissing, illegalInReport, illegalTrack, newCartridgePending, noError, notReady}
-use Rattle.pulse_parts.specs.Errors.{notReferenced, softwareReset, undefinedCommand}
-use Rattle.pulse_parts.specs.Faults.{errorHeld}
+use Rattle.pulse_parts.specs.Faults.{errorHeld, noCommand}
 use Rattle.pulse_parts.specs.Heads.{atStart, isRun, isStill, standingAt}
 use Rattle.pulse_parts.specs.Marking.{newMarks, noMarks}
 use Rattle.pulse_parts.specs.Reports.{extraLength, isOpen, itemsLeft, noReport, owing, qic80, statusBits, configurationBits, tapeBits}
@@ -32,7 +32,7 @@ use Rattle.pulse.specs.declared.drive.Drive.{Drive}
 use Rattle.pulse.specs.Arguments.{argumentFor, argumentOr, argumentRead, argumentTaken, nibbleTaken, skipped, stepArgument, trackSought}
 use Rattle.pulse.specs.Calls.{insertCall, removeCall, tickCall, trainCall, waitCall}
 use Rattle.pulse.specs.Commands.{checked, obeyed, stepCommand}
-use Rattle.pulse.specs.Drives.{isReady, noCommand, powerOn, withFault, withLevel, withReport, withWaiting, withoutArguments}
+use Rattle.pulse.specs.Drives.{isReady, powerOn, withFault, withLevel, withReport, withWaiting, withoutArguments}
 use Rattle.pulse.specs.Events.{exchanged, inserted, removed, runFor, stepsTo}
 use Rattle.pulse.specs.Motions.{arrived, latched, loadStarted, runStarted, stopped, ticked}
 use Rattle.pulse.specs.Reports.{errorRead, itemGiven, opened, reportBroken, reportOf, statusAsked, stepOpenReport, stepReport}

@@ -6,8 +6,8 @@ use mathlib.Core.List.{List, map}
 use Prim.Native.Nat.{ℕ, _^_, _<_, _≤_}
 use lib.ListN.{getD}
 use Rattle.packet_parts.specs.declared.state.State.{State}
-use Rattle.pulse_parts.specs.declared.arguments.Waiting.{Waiting}
-use Rattle.pulse_parts.specs.declared.arguments.Waiting.the-variants.{Nothing, For}
+use Rattle.pulse_codes.specs.declared.arguments.Waiting.{Waiting}
+use Rattle.pulse_codes.specs.declared.arguments.Waiting.the-variants.{Nothing, For}
 use Rattle.pulse.specs.declared.drive.Drive.{Drive}
 use Rattle.pulse.specs.Calls.{trainCall, tickCall, insertCall, removeCall, waitCall}
 use Rattle.pulse.specs.Drives.{powerOn}

@@ -6,9 +6,9 @@ use mathlib.Core.Path.{_≡_, ap}
 use borrow.Author.Tests.{eq-eqb, ne-eqb}
 use Rattle.numbers.proofs.Branches.{if-true, if-false}
 use Rattle.numbers.specs.Choice.{_≤ᵇ_}
+use Rattle.pulse_codes.specs.Arguments.{highestRate, waitingFits}
+use Rattle.pulse_codes.specs.Errors.{admitted}
 use Rattle.pulse_parts.specs.declared.cartridge.Cartridge.{Cartridge}
-use Rattle.pulse_parts.specs.Arguments.{highestRate, waitingFits}
-use Rattle.pulse_parts.specs.Errors.{admitted}
 use Rattle.pulse_parts.specs.Heads.{motionFits}
 use Rattle.pulse_parts.specs.Reports.{reportFits}
 use Rattle.pulse.specs.declared.calls.Step.{Step}

@@ -7,14 +7,14 @@ use mathlib.Core.Logic.{_⊎_, inl, inr}
 use mathlib.Core.Path.{_≡_, refl, sym, _∙_, ap}
 use borrow.Author.Tests.{ne-eqb}
 use Rattle.numbers.specs.Choice.{_<ᵇ_}
-use Rattle.pulse_parts.specs.declared.arguments.Nibble.{Nibble}
-use Rattle.pulse_parts.specs.declared.arguments.Nibble.the-variants.{Value, OutOfRange}
-use Rattle.pulse_parts.specs.declared.arguments.Waiting.{Waiting}
-use Rattle.pulse_parts.specs.declared.arguments.Waiting.the-variants.{For}
-use Rattle.pulse_parts.specs.Arguments.{joined, needed, nibbleOf}
-use Rattle.pulse_parts.specs.Codes.{logicalForward, pause, physicalForward, physicalReverse, seekLoadPoint, skipExtendedReverse, skipReverse, stopTape}
-use Rattle.pulse_parts.specs.Codes.{needsCartridge, needsReference, stopsMotion}
-use Rattle.pulse_parts.specs.Errors.{cartridgeMissing, newCartridgePending, noError, notReferenced}
+use Rattle.pulse_codes.specs.declared.arguments.Nibble.{Nibble}
+use Rattle.pulse_codes.specs.declared.arguments.Nibble.the-variants.{Value, OutOfRange}
+use Rattle.pulse_codes.specs.declared.arguments.Waiting.{Waiting}
+use Rattle.pulse_codes.specs.declared.arguments.Waiting.the-variants.{For}
+use Rattle.pulse_codes.specs.Arguments.{joined, needed, nibbleOf}
+use Rattle.pulse_codes.specs.Codes.{logicalForward, pause, physicalForward, physicalReverse, seekLoadPoint, skipExtendedReverse, skipReverse, stopTape}
+use Rattle.pulse_codes.specs.Codes.{needsCartridge, needsReference, stopsMotion}
+use Rattle.pulse_codes.specs.Errors.{cartridgeMissing, newCartridgePending, noError, notReferenced}
 use Rattle.pulse_parts.specs.Faults.{errorHeld}
 use Rattle.pulse_parts.specs.Heads.{isRun, skippedBack, skippedOn}
 use Rattle.pulse_parts.specs.Marking.{commandError}

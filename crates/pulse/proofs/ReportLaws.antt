@@ -4,15 +4,16 @@ use Prim.Native.Nat.{ℕ}
 use mathlib.Core.Bool.{Bool, true, false, not, _&&_}
 use mathlib.Core.Path.{_≡_}
 use borrow.Author.Tests.{eq-eqb, ne-eqb}
+use Rattle.pulse_codes.specs.Codes.{ignored, reportConfiguration, reportError, reportNextBit, reportRom, reportStatus, reportVendor}
+use Rattle.pulse_codes.specs.Errors.{illegalInReport, noError}
 use Rattle.pulse_parts.specs.declared.marks.Marks.{Marks}
 use Rattle.pulse_parts.specs.declared.reports.Report.{Report}
-use Rattle.pulse_parts.specs.Codes.{ignored, reportConfiguration, reportError, reportNextBit, reportRom, reportStatus, reportVendor}
-use Rattle.pulse_parts.specs.Errors.{illegalInReport, noError}
+use Rattle.pulse_parts.specs.Faults.{noCommand}
 use Rattle.pulse_parts.specs.Marking.{markAsked, markFresh}
 use Rattle.pulse_parts.specs.Reports.{configurationBits, errorBits, itemLevel, itemsLeft, noReport, owing, reportOf8, reportOf16}
 use Rattle.pulse_parts.specs.Reports.{statusBits, tapeBits}
 use Rattle.pulse.specs.declared.drive.Drive.{Drive}
-use Rattle.pulse.specs.Drives.{isReady, noCommand, withFault, withLevel, withMarks, withReport}
+use Rattle.pulse.specs.Drives.{isReady, withFault, withLevel, withMarks, withReport}
 use Rattle.pulse.specs.Motions.{latched}
 use Rattle.pulse.specs.Reports.{errorRead, itemGiven, reportOf, statusAsked, stepOpenReport, stepReport}
 

@@ -4,11 +4,11 @@ use Prim.Native.Nat.{ℕ}
 use mathlib.Core.Bool.{Bool, true, false, not}
 use mathlib.Core.Path.{_≡_}
 use borrow.Author.Tests.{eq-eqb, ne-eqb}
+use Rattle.pulse_codes.specs.Arguments.{isWaiting}
+use Rattle.pulse_codes.specs.Codes.{isReport, reportNextBit, softReset, supported}
+use Rattle.pulse_codes.specs.Errors.{softwareReset}
 use Rattle.pulse_parts.specs.declared.marks.Marks.{Marks}
 use Rattle.pulse_parts.specs.declared.reports.Report.{Report}
-use Rattle.pulse_parts.specs.Arguments.{isWaiting}
-use Rattle.pulse_parts.specs.Codes.{isReport, reportNextBit, softReset, supported}
-use Rattle.pulse_parts.specs.Errors.{softwareReset}
 use Rattle.pulse_parts.specs.Marking.{markAsked, markReferenced}
 use Rattle.pulse_parts.specs.Reports.{isOpen, noReport}
 use Rattle.pulse.specs.declared.drive.Drive.{Drive}

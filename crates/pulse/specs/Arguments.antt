@@ -3,13 +3,13 @@
 use Prim.Native.Nat.{ℕ, _+_}
 use mathlib.Core.Bool.{_||_}
 use Rattle.numbers.specs.Choice.{if_then_else_, _≡ᵇ_, _<ᵇ_}
-use Rattle.pulse_parts.specs.declared.arguments.Nibble.{Nibble}
-use Rattle.pulse_parts.specs.declared.arguments.Nibble.the-variants.{Value, OutOfRange}
-use Rattle.pulse_parts.specs.declared.arguments.Waiting.{Waiting}
-use Rattle.pulse_parts.specs.declared.arguments.Waiting.the-variants.{Nothing, For}
-use Rattle.pulse_parts.specs.Arguments.{joined, needed, nibbleOf}
-use Rattle.pulse_parts.specs.Codes.{seekTrack, selectRate, skipReverse, skipExtendedReverse}
-use Rattle.pulse_parts.specs.Errors.{illegalTrack}
+use Rattle.pulse_codes.specs.declared.arguments.Nibble.{Nibble}
+use Rattle.pulse_codes.specs.declared.arguments.Nibble.the-variants.{Value, OutOfRange}
+use Rattle.pulse_codes.specs.declared.arguments.Waiting.{Waiting}
+use Rattle.pulse_codes.specs.declared.arguments.Waiting.the-variants.{Nothing, For}
+use Rattle.pulse_codes.specs.Arguments.{joined, needed, nibbleOf}
+use Rattle.pulse_codes.specs.Codes.{seekTrack, selectRate, skipReverse, skipExtendedReverse}
+use Rattle.pulse_codes.specs.Errors.{illegalTrack}
 use Rattle.pulse_parts.specs.Heads.{onTrack, skippedBack, skippedOn}
 use Rattle.pulse.specs.declared.drive.Drive.{Drive}
 use Rattle.pulse.specs.Drives.{withHead, withRate, withWaiting, withoutArguments}

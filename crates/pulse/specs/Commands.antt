@@ -3,10 +3,10 @@
 use Prim.Native.Nat.{ℕ}
 use mathlib.Core.Bool.{not, _&&_, _||_}
 use Rattle.numbers.specs.Choice.{if_then_else_, _≡ᵇ_}
-use Rattle.pulse_parts.specs.declared.arguments.Waiting.the-variants.{For}
-use Rattle.pulse_parts.specs.Codes.{pause, stopTape, logicalForward, physicalForward, physicalReverse, seekLoadPoint}
-use Rattle.pulse_parts.specs.Codes.{needsCartridge, needsReference, stopsMotion}
-use Rattle.pulse_parts.specs.Errors.{cartridgeMissing, newCartridgePending, notReady, notReferenced}
+use Rattle.pulse_codes.specs.declared.arguments.Waiting.the-variants.{For}
+use Rattle.pulse_codes.specs.Codes.{pause, stopTape, logicalForward, physicalForward, physicalReverse, seekLoadPoint}
+use Rattle.pulse_codes.specs.Codes.{needsCartridge, needsReference, stopsMotion}
+use Rattle.pulse_codes.specs.Errors.{cartridgeMissing, newCartridgePending, notReady, notReferenced}
 use Rattle.pulse_parts.specs.Faults.{errorHeld}
 use Rattle.pulse_parts.specs.Heads.{isRun}
 use Rattle.pulse.specs.declared.drive.Drive.{Drive}

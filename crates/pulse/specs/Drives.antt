@@ -2,23 +2,19 @@
 -- Assumes nothing.
 use Prim.Native.Nat.{ℕ}
 use mathlib.Core.Bool.{Bool, false}
-use Rattle.pulse_parts.specs.declared.arguments.Waiting.{Waiting}
-use Rattle.pulse_parts.specs.declared.arguments.Waiting.the-variants.{Nothing}
+use Rattle.pulse_codes.specs.declared.arguments.Waiting.{Waiting}
+use Rattle.pulse_codes.specs.declared.arguments.Waiting.the-variants.{Nothing}
 use Rattle.pulse_parts.specs.declared.cartridge.Cartridge.{Cartridge}
 use Rattle.pulse_parts.specs.declared.fault.Fault.{Fault}
 use Rattle.pulse_parts.specs.declared.head.Head.{Head}
 use Rattle.pulse_parts.specs.declared.marks.Marks.{Marks}
 use Rattle.pulse_parts.specs.declared.reports.Report.{Report}
 use Rattle.pulse_parts.specs.Cartridges.{noCartridge}
-use Rattle.pulse_parts.specs.Errors.{powerOnReset}
+use Rattle.pulse_parts.specs.Faults.{powerOnFault}
 use Rattle.pulse_parts.specs.Heads.{atStart, isStill}
 use Rattle.pulse_parts.specs.Marking.{noMarks}
 use Rattle.pulse_parts.specs.Reports.{noReport}
 use Rattle.pulse.specs.declared.drive.Drive.{Drive}
-
--- the command of an error that no train gave
-abbrev pub noCommand : ℕ
-noCommand = 0
 
 -- the rate at power-on (000, table 2b: 500 Kbps)
 abbrev pub powerOnRate : ℕ
@@ -31,7 +27,7 @@ powerOn vendor rom =
       cart = noCartridge;
       head = atStart;
       marks = noMarks;
-      fault = record { error = powerOnReset; command = noCommand };
+      fault = powerOnFault;
       report = noReport;
       waiting = Nothing;
       rate = powerOnRate;

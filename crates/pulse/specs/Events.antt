@@ -2,17 +2,18 @@
 -- Assumes nothing.
 use Prim.Native.Nat.{ℕ, zero, suc}
 use Rattle.numbers.specs.Choice.{if_then_else_}
-use Rattle.pulse_parts.specs.declared.arguments.Waiting.the-variants.{Nothing}
+use Rattle.pulse_codes.specs.declared.arguments.Waiting.the-variants.{Nothing}
+use Rattle.pulse_codes.specs.Errors.{cartridgeMissing}
 use Rattle.pulse_parts.specs.declared.cartridge.Cartridge.{Cartridge}
 use Rattle.pulse_parts.specs.declared.head.Head.{Head}
 use Rattle.pulse_parts.specs.declared.marks.Marks.{Marks}
 use Rattle.pulse_parts.specs.Cartridges.{noCartridge}
-use Rattle.pulse_parts.specs.Errors.{cartridgeMissing}
+use Rattle.pulse_parts.specs.Faults.{noCommand}
 use Rattle.pulse_parts.specs.Heads.{atStart, standingAt}
 use Rattle.pulse_parts.specs.Marking.{newMarks, noMarks}
 use Rattle.pulse_parts.specs.Reports.{noReport}
 use Rattle.pulse.specs.declared.drive.Drive.{Drive}
-use Rattle.pulse.specs.Drives.{driveOf, isReady, noCommand}
+use Rattle.pulse.specs.Drives.{driveOf, isReady}
 use Rattle.pulse.specs.Motions.{latched, loadStarted, ticked}
 
 -- another cartridge, or none. 01: "Both drop report and arguments, and forget that status was asked."

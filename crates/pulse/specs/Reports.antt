@@ -3,13 +3,14 @@
 use Prim.Native.Nat.{ℕ}
 use mathlib.Core.Bool.{true, false, not, _&&_}
 use Rattle.numbers.specs.Choice.{if_then_else_, _≡ᵇ_}
+use Rattle.pulse_codes.specs.Codes.{reportNextBit, reportStatus, reportError, reportConfiguration, reportRom, reportVendor, ignored}
+use Rattle.pulse_codes.specs.Errors.{illegalInReport, noError}
 use Rattle.pulse_parts.specs.declared.reports.Report.{Report}
-use Rattle.pulse_parts.specs.Codes.{reportNextBit, reportStatus, reportError, reportConfiguration, reportRom, reportVendor, ignored}
-use Rattle.pulse_parts.specs.Errors.{illegalInReport, noError}
+use Rattle.pulse_parts.specs.Faults.{noCommand}
 use Rattle.pulse_parts.specs.Marking.{markAsked, markFresh}
 use Rattle.pulse_parts.specs.Reports.{configurationBits, errorBits, itemLevel, itemsLeft, noReport, owing, reportOf8, reportOf16, statusBits, tapeBits}
 use Rattle.pulse.specs.declared.drive.Drive.{Drive}
-use Rattle.pulse.specs.Drives.{isReady, noCommand, withFault, withLevel, withMarks, withReport}
+use Rattle.pulse.specs.Drives.{isReady, withFault, withLevel, withMarks, withReport}
 use Rattle.pulse.specs.Motions.{latched}
 
 -- 01: "2 gives the next item"; "the next 2 repeats the last level"

@@ -3,14 +3,14 @@
 use Prim.Native.Nat.{ℕ}
 use mathlib.Core.Bool.{Bool, not, _&&_, _||_}
 use Rattle.numbers.specs.Choice.{if_then_else_, _≡ᵇ_, _<ᵇ_, _≤ᵇ_}
+use Rattle.pulse_codes.specs.Arguments.{highestRate, waitingFits}
+use Rattle.pulse_codes.specs.Errors.{admitted}
 use Rattle.pulse_parts.specs.declared.cartridge.Cartridge.{Cartridge}
 use Rattle.pulse_parts.specs.declared.fault.Fault.{Fault}
 use Rattle.pulse_parts.specs.declared.head.Head.{Head}
 use Rattle.pulse_parts.specs.declared.marks.Marks.{Marks}
 use Rattle.pulse_parts.specs.declared.reports.Report.{Report}
-use Rattle.pulse_parts.specs.Arguments.{highestRate, waitingFits}
 use Rattle.pulse_parts.specs.Cartridges.{isNone}
-use Rattle.pulse_parts.specs.Errors.{admitted}
 use Rattle.pulse_parts.specs.Faults.{errorHeld}
 use Rattle.pulse_parts.specs.Heads.{isStill, isRun, motionFits}
 use Rattle.pulse_parts.specs.Reports.{isOpen, reportFits}

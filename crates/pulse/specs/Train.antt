@@ -3,9 +3,9 @@
 use Prim.Native.Nat.{ℕ}
 use mathlib.Core.Bool.{true, false, not}
 use Rattle.numbers.specs.Choice.{if_then_else_, _≡ᵇ_, _<ᵇ_}
-use Rattle.pulse_parts.specs.Arguments.{isWaiting}
-use Rattle.pulse_parts.specs.Codes.{softReset, reportNextBit, reportVendor, supported, isReport}
-use Rattle.pulse_parts.specs.Errors.{softwareReset, undefinedCommand}
+use Rattle.pulse_codes.specs.Arguments.{isWaiting}
+use Rattle.pulse_codes.specs.Codes.{softReset, reportNextBit, reportVendor, supported, isReport}
+use Rattle.pulse_codes.specs.Errors.{softwareReset, undefinedCommand}
 use Rattle.pulse_parts.specs.Marking.{markAsked, markReferenced}
 use Rattle.pulse_parts.specs.Reports.{isOpen, noReport}
 use Rattle.pulse.specs.declared.drive.Drive.{Drive}

@@ -2,14 +2,14 @@
 ghost use mathlib.Core.Path.{_≡_};
 ghost use mathlib.Core.Bool.{true};
 ghost use Prim.Native.Nat.{_≤_};
-ghost use Rattle.pulse_parts.specs.Arguments.{inRange, highestNibble};
+ghost use Rattle.pulse_codes.specs.Arguments.{inRange, highestNibble};
 ghost use Rattle.pulse.specs.Arguments.{trackSought, skipped, nibbleTaken, argumentTaken, stepArgument};
 use crate::drive::Drive;
-use pulse_parts::Nibble;
-use pulse_parts::Waiting;
-use pulse_parts::arguments;
-use pulse_parts::codes;
-use pulse_parts::errors;
+use pulse_codes::Nibble;
+use pulse_codes::Waiting;
+use pulse_codes::arguments;
+use pulse_codes::codes;
+use pulse_codes::errors;
 use pulse_parts::head;
 
 impl Drive {

@@ -2,8 +2,8 @@
 ghost use mathlib.Core.Path.{_≡_};
 ghost use Rattle.pulse.specs.Commands.{obeyed, checked, stepCommand};
 use crate::drive::Drive;
-use pulse_parts::Waiting;
-use pulse_parts::errors;
+use pulse_codes::Waiting;
+use pulse_codes::errors;
 use pulse_parts::fault;
 use pulse_parts::head;
 use pulse_parts::marks;

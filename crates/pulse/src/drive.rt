@@ -2,14 +2,14 @@
 ghost use mathlib.Core.Path.{_≡_};
 ghost use Rattle.pulse.specs.Calls.{PowerOnPromise};
 ghost use Rattle.pulse.specs.Drives.{isReady, withHead, withMarks, withFault, withReport, withWaiting, withLevel};
+use pulse_codes::Waiting;
 use pulse_parts::Cartridge;
 use pulse_parts::Fault;
 use pulse_parts::Head;
 use pulse_parts::Marks;
 use pulse_parts::Report;
-use pulse_parts::Waiting;
 use pulse_parts::cartridge;
-use pulse_parts::errors;
+use pulse_parts::fault;
 use pulse_parts::head;
 use pulse_parts::marks;
 use pulse_parts::reports;
@@ -26,9 +26,6 @@ pub struct Drive {
     pub vendor: u16,
     pub rom: u8,
 }
-
-// The command of an error that no train gave.
-pub(crate) const NO_COMMAND: u8 = 0;
 
 impl Drive {
     pub const MAX_SEGMENTS: u16 = 4095;
@@ -48,10 +45,7 @@ impl Drive {
         let head = head::standing_at(0);
         let marks = marks::no_marks();
         let report = reports::no_report();
-        let fault = Fault {
-            error: errors::POWER_ON_RESET,
-            command: NO_COMMAND,
-        };
+        let fault = fault::power_on_fault();
         Drive {
             cart: cart,
             head: head,

@@ -1,14 +1,14 @@
 // Insertion, removal, and time that passes.
 ghost use mathlib.Core.Path.{_≡_};
 ghost use Rattle.pulse.specs.Events.{exchanged, inserted, emptied, removed};
-use crate::drive;
 use crate::drive::Drive;
+use pulse_codes::Waiting;
+use pulse_codes::errors;
 use pulse_parts::Cartridge;
 use pulse_parts::Head;
 use pulse_parts::Marks;
-use pulse_parts::Waiting;
 use pulse_parts::cartridge;
-use pulse_parts::errors;
+use pulse_parts::fault;
 use pulse_parts::head;
 use pulse_parts::marks;
 use pulse_parts::reports;
@@ -17,20 +17,12 @@ impl Drive {
     fn exchange(self, cart: Cartridge, head: Head, marks: Marks) -> Self
         ensures { λ r. ⌜ r ≡ exchanged self cart head marks ⌝ }
     {
-        let fault = self.fault;
-        let report = reports::no_report();
-        Drive {
-            cart: cart,
-            head: head,
-            marks: marks,
-            fault: fault,
-            report: report,
-            waiting: Waiting::Nothing,
-            rate: self.rate,
-            level: self.level,
-            vendor: self.vendor,
-            rom: self.rom,
-        }
+        let mut d = self.with_waiting(Waiting::Nothing)
+            .with_report(reports::no_report())
+            .with_marks(marks)
+            .with_head(head);
+        d.cart = cart;
+        d
     }
 
     pub(crate) fn insert_step(self, cart: Cartridge, place: u16) -> Self
@@ -56,7 +48,7 @@ impl Drive {
         if self.is_ready() {
             return self.empty();
         }
-        self.latch(errors::CARTRIDGE_MISSING, drive::NO_COMMAND)
+        self.latch(errors::CARTRIDGE_MISSING, fault::NO_COMMAND)
             .empty()
     }
 }

@@ -2,8 +2,8 @@
 ghost use mathlib.Core.Path.{_≡_};
 ghost use Rattle.pulse.specs.Motions.{stopped, loadEnded, loadStarted, runStarted, latched, motionEnded, arrived, ticked};
 use crate::drive::Drive;
+use pulse_codes::Waiting;
 use pulse_parts::Motion;
-use pulse_parts::Waiting;
 use pulse_parts::fault;
 use pulse_parts::head;
 

@@ -1,11 +1,11 @@
 // Steps 3 and 6 of a train: a train in an open report, and a report that opens.
 ghost use mathlib.Core.Path.{_≡_};
 ghost use Rattle.pulse.specs.Reports.{itemGiven, stepReport, reportOf, statusAsked, errorRead, stepOpenReport};
-use crate::drive;
 use crate::drive::Drive;
+use pulse_codes::codes;
+use pulse_codes::errors;
 use pulse_parts::Report;
-use pulse_parts::codes;
-use pulse_parts::errors;
+use pulse_parts::fault;
 use pulse_parts::head;
 use pulse_parts::marks;
 use pulse_parts::reports;
@@ -76,7 +76,7 @@ impl Drive {
         ensures { λ r. ⌜ r ≡ errorRead self ⌝ }
     {
         if head::stands(self.head) {
-            return self.with_fault(errors::NO_ERROR, drive::NO_COMMAND)
+            return self.with_fault(errors::NO_ERROR, fault::NO_COMMAND)
                 .with_marks(marks::after_reading(self.marks));
         }
         self

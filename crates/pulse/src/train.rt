@@ -2,10 +2,10 @@
 ghost use mathlib.Core.Path.{_≡_};
 ghost use Rattle.pulse.specs.Train.{cleared, stepReset, stepUnsupported, trainStep};
 use crate::drive::Drive;
-use pulse_parts::Waiting;
-use pulse_parts::arguments;
-use pulse_parts::codes;
-use pulse_parts::errors;
+use pulse_codes::Waiting;
+use pulse_codes::arguments;
+use pulse_codes::codes;
+use pulse_codes::errors;
 use pulse_parts::marks;
 use pulse_parts::reports;
 

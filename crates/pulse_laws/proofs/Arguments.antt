@@ -9,20 +9,20 @@ use borrow.Author.Tests.{ltb-true, not-true}
 use Rattle.numbers.specs.Choice.{_<ᵇ_, _≡ᵇ_, _≤ᵇ_}
 use Rattle.numbers.specs.Member.{isIn}
 use Rattle.numbers.proofs.Cases.{and-l, and-r, ands, either, never, or-r, test}
-use Rattle.pulse_parts.specs.declared.arguments.Nibble.{Nibble}
-use Rattle.pulse_parts.specs.declared.arguments.Nibble.the-variants.{OutOfRange, Value}
-use Rattle.pulse_parts.specs.declared.arguments.Waiting.{Waiting}
-use Rattle.pulse_parts.specs.declared.arguments.Waiting.the-variants.{For, Nothing}
-use Rattle.pulse_parts.specs.Arguments.{highestRate, inRange, joined, needed, nibbleOf}
-use Rattle.pulse_parts.specs.Codes.{isSkip, seekTrack, selectRate, skipExtendedForward, skipExtendedReverse, skipForward, skipReverse}
+use Rattle.pulse_codes.specs.declared.arguments.Nibble.{Nibble}
+use Rattle.pulse_codes.specs.declared.arguments.Nibble.the-variants.{OutOfRange, Value}
+use Rattle.pulse_codes.specs.declared.arguments.Waiting.{Waiting}
+use Rattle.pulse_codes.specs.declared.arguments.Waiting.the-variants.{For, Nothing}
+use Rattle.pulse_codes.specs.Arguments.{highestRate, inRange, joined, needed, nibbleOf}
+use Rattle.pulse_codes.specs.Codes.{isSkip, seekTrack, selectRate, skipExtendedForward, skipExtendedReverse, skipForward, skipReverse}
+use Rattle.pulse_codes.specs.Errors.{illegalTrack}
 use Rattle.pulse_parts.specs.Faults.{errorHeld}
 use Rattle.pulse_parts.specs.Heads.{skippedBack, skippedOn}
-use Rattle.pulse_parts.specs.Errors.{illegalTrack}
 use Rattle.pulse.specs.declared.drive.Drive.{Drive}
 use Rattle.pulse.specs.Arguments.{argumentFor, argumentOr, argumentRead, argumentTaken, nibbleTaken, skipped, stepArgument, trackSought}
 use Rattle.pulse.specs.Drives.{withRate, withoutArguments}
+use Rattle.pulse_codes.proofs.ArgumentLaws.{value-in-range}
 use Rattle.pulse.specs.Rules.{isFree}
-use Rattle.pulse_parts.proofs.ArgumentLaws.{value-in-range}
 use Rattle.pulse_laws.proofs.Motion.{within}
 use Rattle.pulse_laws.proofs.Rules.{Calm, Cart, Rules, Waits, bare, full}
 use Rattle.pulse_laws.proofs.Idle.{Idle, idle-rules, latch-idle, run-idle}

@@ -8,12 +8,12 @@ use borrow.Author.Tests.{eqb-true, leb-true, not-false}
 use Rattle.numbers.specs.Choice.{_<ᵇ_, _≡ᵇ_, _≤ᵇ_}
 use Rattle.numbers.specs.Member.{isIn}
 use Rattle.numbers.proofs.Cases.{allBelow, and-r, below, either, no-l, or-by}
-use Rattle.pulse_parts.specs.declared.arguments.Waiting.the-variants.{For}
-use Rattle.pulse_parts.specs.Arguments.{needed}
-use Rattle.pulse_parts.specs.Codes.{between, isReport, isSkip, logicalForward, needsCartridge, needsReference, pause, physicalForward}
-use Rattle.pulse_parts.specs.Codes.{physicalReverse, reportNextBit, reportStatus, reportVendor, seekLoadPoint, seekTrack, selectRate}
-use Rattle.pulse_parts.specs.Codes.{skipExtendedForward, skipReverse, softReset, stopTape, stopsMotion, supported}
-use Rattle.pulse_parts.specs.Errors.{admitted, cartridgeMissing, newCartridgePending, notReady, notReferenced}
+use Rattle.pulse_codes.specs.declared.arguments.Waiting.the-variants.{For}
+use Rattle.pulse_codes.specs.Arguments.{needed}
+use Rattle.pulse_codes.specs.Codes.{between, isReport, isSkip, logicalForward, needsCartridge, needsReference, pause, physicalForward}
+use Rattle.pulse_codes.specs.Codes.{physicalReverse, reportNextBit, reportStatus, reportVendor, seekLoadPoint, seekTrack, selectRate}
+use Rattle.pulse_codes.specs.Codes.{skipExtendedForward, skipReverse, softReset, stopTape, stopsMotion, supported}
+use Rattle.pulse_codes.specs.Errors.{admitted, cartridgeMissing, newCartridgePending, notReady, notReferenced}
 use Rattle.pulse_parts.specs.Faults.{errorHeld}
 use Rattle.pulse_parts.specs.Heads.{isRun}
 use Rattle.pulse_parts.specs.Reports.{isOpen}

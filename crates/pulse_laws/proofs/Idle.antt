@@ -5,9 +5,9 @@ use mathlib.Core.Bool.{true, false}
 use mathlib.Core.Path.{_≡_, refl, _∙_}
 use Rattle.numbers.specs.Choice.{_≡ᵇ_}
 use Rattle.numbers.proofs.Cases.{either}
-use Rattle.pulse_parts.specs.declared.arguments.Waiting.{Waiting}
-use Rattle.pulse_parts.specs.declared.arguments.Waiting.the-variants.{Nothing}
-use Rattle.pulse_parts.specs.Errors.{admitted}
+use Rattle.pulse_codes.specs.declared.arguments.Waiting.{Waiting}
+use Rattle.pulse_codes.specs.declared.arguments.Waiting.the-variants.{Nothing}
+use Rattle.pulse_codes.specs.Errors.{admitted}
 use Rattle.pulse_parts.specs.Faults.{errorHeld}
 use Rattle.pulse_parts.specs.Heads.{isRun}
 use Rattle.pulse.specs.declared.drive.Drive.{Drive}

@@ -6,12 +6,12 @@ use mathlib.Core.Path.{_≡_, refl, ap}
 use borrow.Author.Tests.{eqb-true, not-false}
 use Rattle.numbers.specs.Choice.{_≡ᵇ_}
 use Rattle.numbers.proofs.Cases.{either, never, no-l}
-use Rattle.pulse_parts.specs.declared.arguments.Waiting.{Waiting}
-use Rattle.pulse_parts.specs.declared.arguments.Waiting.the-variants.{For, Nothing}
+use Rattle.pulse_codes.specs.declared.arguments.Waiting.{Waiting}
+use Rattle.pulse_codes.specs.declared.arguments.Waiting.the-variants.{For, Nothing}
+use Rattle.pulse_codes.specs.Arguments.{inRange, isWaiting, nibbleOf}
+use Rattle.pulse_codes.specs.Codes.{ignored, isReport, reportNextBit, softReset}
 use Rattle.pulse_parts.specs.declared.head.Motion.{Motion}
 use Rattle.pulse_parts.specs.declared.head.Motion.the-variants.{Still, Run, Load}
-use Rattle.pulse_parts.specs.Arguments.{inRange, isWaiting, nibbleOf}
-use Rattle.pulse_parts.specs.Codes.{ignored, isReport, reportNextBit, softReset}
 use Rattle.pulse_parts.specs.Reports.{isOpen}
 use Rattle.pulse.specs.declared.calls.Step.{Step}
 use Rattle.pulse.specs.declared.calls.Waited.{Waited}

@@ -7,11 +7,11 @@ use mathlib.Core.Path.{_≡_, refl, sym, _∙_, ap}
 use borrow.Author.Tests.{leb-true, ltb-true, eqb-false}
 use Rattle.numbers.specs.Choice.{_<ᵇ_, _≡ᵇ_, _≤ᵇ_}
 use Rattle.numbers.proofs.Cases.{ands, either, never, or-r}
+use Rattle.pulse_codes.specs.Errors.{admitted}
 use Rattle.pulse_parts.specs.declared.cartridge.Cartridge.{Cartridge}
 use Rattle.pulse_parts.specs.declared.head.Head.{Head}
 use Rattle.pulse_parts.specs.declared.head.Motion.{Motion}
 use Rattle.pulse_parts.specs.declared.head.Motion.the-variants.{Load, Run, Still}
-use Rattle.pulse_parts.specs.Errors.{admitted}
 use Rattle.pulse_parts.specs.Faults.{errorHeld}
 use Rattle.pulse_parts.specs.Heads.{headedFor, heldAt, isRun, isStill, stoodAt, toward}
 use Rattle.pulse.specs.declared.drive.Drive.{Drive}

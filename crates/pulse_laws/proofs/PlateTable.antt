@@ -2,7 +2,7 @@
 -- Assumes nothing.
 use mathlib.Core.Path.{refl}
 use Rattle.numbers.specs.Member.{isIn}
-use Rattle.pulse_parts.specs.Arguments.{needed, nibbleOf}
+use Rattle.pulse_codes.specs.Arguments.{needed, nibbleOf}
 use Rattle.pulse.specs.Arguments.{argumentRead, argumentTaken, nibbleTaken, skipped, stepArgument, trackSought}
 use Rattle.pulse.specs.Calls.{insertCall, trainCall}
 use Rattle.pulse.specs.Commands.{checked, obeyed, stepCommand}

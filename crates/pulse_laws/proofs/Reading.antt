@@ -9,10 +9,10 @@ use borrow.Author.Tests.{eqb-true, ltb-false, lt-leb, le-leb, lt-ltb, not-true}
 use lib.ListN.{drop, length, replicate}
 use Rattle.numbers.specs.Choice.{_≡ᵇ_, _≤ᵇ_}
 use Rattle.numbers.proofs.Cases.{and-l, and-r, either, never, or-by, test}
+use Rattle.pulse_codes.specs.Arguments.{isWaiting}
+use Rattle.pulse_codes.specs.Codes.{reportError, reportNextBit, reportStatus}
 use Rattle.pulse_parts.specs.declared.head.Head.{Head}
 use Rattle.pulse_parts.specs.declared.reports.Report.{Report}
-use Rattle.pulse_parts.specs.Arguments.{isWaiting}
-use Rattle.pulse_parts.specs.Codes.{reportError, reportNextBit, reportStatus}
 use Rattle.pulse_parts.specs.Heads.{isStill}
 use Rattle.pulse_parts.specs.Reports.{isOpen, itemLevel, itemsLeft, mostItems, reportFits}
 use Rattle.pulse.specs.declared.calls.Step.{Step}

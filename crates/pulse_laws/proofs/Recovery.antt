@@ -10,12 +10,12 @@ use borrow.Author.Tests.{leb-true, le-ltb}
 use lib.ListN.{length}
 use Rattle.numbers.specs.Choice.{_≡ᵇ_, _≤ᵇ_}
 use Rattle.numbers.proofs.Cases.{and-l, and-r, ands, either, test}
-use Rattle.pulse_parts.specs.declared.arguments.Waiting.the-variants.{Nothing}
+use Rattle.pulse_codes.specs.declared.arguments.Waiting.the-variants.{Nothing}
+use Rattle.pulse_codes.specs.Codes.{reportError, reportStatus}
+use Rattle.pulse_codes.specs.Errors.{noError}
 use Rattle.pulse_parts.specs.declared.fault.Fault.{Fault}
 use Rattle.pulse_parts.specs.declared.marks.Marks.{Marks}
 use Rattle.pulse_parts.specs.declared.reports.Report.{Report}
-use Rattle.pulse_parts.specs.Codes.{reportError, reportStatus}
-use Rattle.pulse_parts.specs.Errors.{noError}
 use Rattle.pulse_parts.specs.Heads.{toward}
 use Rattle.pulse_parts.specs.Reports.{errorBits, isOpen, mostItems, reportOf16}
 use Rattle.pulse.specs.declared.calls.Step.{Step}

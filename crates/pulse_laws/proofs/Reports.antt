@@ -8,11 +8,11 @@ use borrow.Author.Tests.{le-leb, leb-true}
 use Rattle.numbers.specs.Choice.{_≡ᵇ_, _≤ᵇ_}
 use Rattle.numbers.specs.Member.{isIn}
 use Rattle.numbers.proofs.Cases.{and-l, either}
+use Rattle.pulse_codes.specs.Codes.{ignored, reportConfiguration, reportError, reportNextBit, reportRom, reportStatus, reportVendor}
+use Rattle.pulse_codes.specs.Errors.{illegalInReport}
 use Rattle.pulse_parts.specs.declared.cartridge.Cartridge.{Cartridge}
 use Rattle.pulse_parts.specs.declared.reports.Report.{Report}
-use Rattle.pulse_parts.specs.Codes.{ignored, reportConfiguration, reportError, reportNextBit, reportRom, reportStatus, reportVendor}
 use Rattle.pulse_parts.specs.Reports.{isOpen, itemsLeft, mostItems, noReport, owing, reportFits}
-use Rattle.pulse_parts.specs.Errors.{illegalInReport}
 use Rattle.pulse.specs.declared.drive.Drive.{Drive}
 use Rattle.pulse.specs.Drives.{isReady, withLevel, withReport}
 use Rattle.pulse.specs.Reports.{errorRead, itemGiven, opened, reportOf, statusAsked, stepOpenReport, stepReport}

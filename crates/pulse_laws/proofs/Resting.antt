@@ -6,14 +6,14 @@ use mathlib.Core.Path.{_≡_, refl, ap}
 use borrow.Author.Tests.{ne-eqb, not-true}
 use Rattle.numbers.specs.Choice.{_<ᵇ_, _≡ᵇ_}
 use Rattle.numbers.proofs.Cases.{and-l, and-r, ands, either, never, or-by}
-use Rattle.pulse_parts.specs.declared.arguments.Waiting.{Waiting}
-use Rattle.pulse_parts.specs.declared.arguments.Waiting.the-variants.{For, Nothing}
+use Rattle.pulse_codes.specs.declared.arguments.Waiting.{Waiting}
+use Rattle.pulse_codes.specs.declared.arguments.Waiting.the-variants.{For, Nothing}
+use Rattle.pulse_codes.specs.Arguments.{isWaiting, needed}
+use Rattle.pulse_codes.specs.Codes.{ignored, isReport, reportError, reportNextBit, reportStatus, reportVendor, softReset, stopsMotion, supported}
+use Rattle.pulse_codes.specs.Errors.{illegalInReport, newCartridgePending, notReady, undefinedCommand}
 use Rattle.pulse_parts.specs.declared.head.Head.{Head}
 use Rattle.pulse_parts.specs.declared.head.Motion.{Motion}
 use Rattle.pulse_parts.specs.declared.head.Motion.the-variants.{Load, Run, Still}
-use Rattle.pulse_parts.specs.Arguments.{isWaiting, needed}
-use Rattle.pulse_parts.specs.Codes.{ignored, isReport, reportError, reportNextBit, reportStatus, reportVendor, softReset, stopsMotion, supported}
-use Rattle.pulse_parts.specs.Errors.{illegalInReport, newCartridgePending, notReady, undefinedCommand}
 use Rattle.pulse_parts.specs.Faults.{errorHeld}
 use Rattle.pulse_parts.specs.Heads.{heldAt, isRun, isStill}
 use Rattle.pulse_parts.specs.Reports.{isOpen, noReport}

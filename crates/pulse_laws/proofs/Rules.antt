@@ -6,7 +6,9 @@ use mathlib.Core.Path.{_≡_, refl}
 use borrow.Author.Tests.{lt-ltb, le-leb, eq-eqb, ne-eqb, ltb-true, leb-true, eqb-true, eqb-false, not-true}
 use Rattle.numbers.specs.Choice.{_≡ᵇ_, _≤ᵇ_}
 use Rattle.numbers.proofs.Cases.{and-i, and-l, and-r, ands, test}
-use Rattle.pulse_parts.specs.declared.arguments.Waiting.{Waiting}
+use Rattle.pulse_codes.specs.declared.arguments.Waiting.{Waiting}
+use Rattle.pulse_codes.specs.Arguments.{highestRate, waitingFits}
+use Rattle.pulse_codes.specs.Errors.{admitted}
 use Rattle.pulse_parts.specs.declared.cartridge.Cartridge.{Cartridge}
 use Rattle.pulse_parts.specs.declared.fault.Fault.{Fault}
 use Rattle.pulse_parts.specs.declared.head.Head.{Head}
@@ -14,9 +16,7 @@ use Rattle.pulse_parts.specs.declared.head.Motion.{Motion}
 use Rattle.pulse_parts.specs.declared.head.Motion.the-variants.{Load, Run, Still}
 use Rattle.pulse_parts.specs.declared.marks.Marks.{Marks}
 use Rattle.pulse_parts.specs.declared.reports.Report.{Report}
-use Rattle.pulse_parts.specs.Arguments.{highestRate, waitingFits}
 use Rattle.pulse_parts.specs.Cartridges.{isNone}
-use Rattle.pulse_parts.specs.Errors.{admitted}
 use Rattle.pulse_parts.specs.Heads.{motionFits}
 use Rattle.pulse_parts.specs.Reports.{reportFits}
 use Rattle.pulse.specs.declared.drive.Drive.{Drive}

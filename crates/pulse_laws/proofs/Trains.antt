@@ -7,19 +7,19 @@ use borrow.Author.Tests.{leb-true, not-false}
 use Rattle.numbers.specs.Choice.{_<ᵇ_, _≡ᵇ_, _≤ᵇ_}
 use Rattle.numbers.specs.Member.{isIn}
 use Rattle.numbers.proofs.Cases.{ands, either, never}
-use Rattle.pulse_parts.specs.declared.arguments.Waiting.{Waiting}
-use Rattle.pulse_parts.specs.declared.arguments.Waiting.the-variants.{For, Nothing}
+use Rattle.pulse_codes.specs.declared.arguments.Waiting.{Waiting}
+use Rattle.pulse_codes.specs.declared.arguments.Waiting.the-variants.{For, Nothing}
+use Rattle.pulse_codes.specs.Arguments.{isWaiting}
+use Rattle.pulse_codes.specs.Codes.{isReport, reportNextBit, reportVendor, softReset, supported}
+use Rattle.pulse_codes.specs.Errors.{cartridgeMissing, undefinedCommand}
 use Rattle.pulse_parts.specs.declared.cartridge.Cartridge.{Cartridge}
 use Rattle.pulse_parts.specs.declared.head.Motion.{Motion}
-use Rattle.pulse_parts.specs.Arguments.{isWaiting}
-use Rattle.pulse_parts.specs.Codes.{isReport, reportNextBit, reportVendor, softReset, supported}
-use Rattle.pulse_parts.specs.Errors.{cartridgeMissing, undefinedCommand}
-use Rattle.pulse_parts.specs.Faults.{errorHeld}
+use Rattle.pulse_parts.specs.Faults.{errorHeld, noCommand}
 use Rattle.pulse_parts.specs.Heads.{isRun, standingAt, toward}
 use Rattle.pulse_parts.specs.Marking.{newMarks}
 use Rattle.pulse_parts.specs.Reports.{isOpen}
 use Rattle.pulse.specs.declared.drive.Drive.{Drive}
-use Rattle.pulse.specs.Drives.{isReady, noCommand, powerOn, withHead, withoutArguments}
+use Rattle.pulse.specs.Drives.{isReady, powerOn, withHead, withoutArguments}
 use Rattle.pulse.specs.Events.{emptied, exchanged, inserted, removed, runFor}
 use Rattle.pulse.specs.Motions.{arrived, latched, loadStarted, stopped, ticked}
 use Rattle.pulse.specs.Reports.{stepOpenReport, stepReport}

@@ -8,9 +8,9 @@ use mathlib.Core.Path.{_≡_}
 use lib.ListN.{drop, length, replicate}
 use Rattle.numbers.specs.Choice.{_≡ᵇ_}
 use Rattle.numbers.specs.Outcomes.{Settles}
+use Rattle.pulse_codes.specs.Codes.{softReset}
+use Rattle.pulse_codes.specs.Errors.{noError}
 use Rattle.pulse_parts.specs.declared.cartridge.Cartridge.{Cartridge}
-use Rattle.pulse_parts.specs.Codes.{softReset}
-use Rattle.pulse_parts.specs.Errors.{noError}
 use Rattle.pulse_parts.specs.Faults.{errorHeld}
 use Rattle.pulse.specs.declared.calls.Step.{Step}
 use Rattle.pulse.specs.declared.drive.Drive.{Drive}

@@ -5,7 +5,7 @@ use mathlib.Core.Bool.{Bool, true, false, _&&_}
 use mathlib.Core.List.{List, [], _∷_, map}
 use Rattle.numbers.specs.Choice.{_≡ᵇ_}
 use Rattle.numbers.specs.Flags.{weightOf}
-use Rattle.pulse_parts.specs.Codes.{reportError, skipExtendedForward}
+use Rattle.pulse_codes.specs.Codes.{reportError, skipExtendedForward}
 use Rattle.pulse.specs.declared.calls.Step.{Step}
 use Rattle.pulse.specs.declared.drive.Drive.{Drive}
 use Rattle.pulse.specs.Calls.{insertCall}

@@ -7,11 +7,11 @@ use mathlib.Core.Logic.{_↔_, _≢_}
 use mathlib.Core.Path.{_≡_}
 use lib.ListN.{replicate}
 use Rattle.numbers.specs.Choice.{_≡ᵇ_, _≤ᵇ_, if_then_else_}
+use Rattle.pulse_codes.specs.Arguments.{isWaiting}
+use Rattle.pulse_codes.specs.Codes.{ignored, isReport, reportError, reportNextBit, reportStatus, softReset}
 use Rattle.pulse_parts.specs.declared.cartridge.Cartridge.{Cartridge}
 use Rattle.pulse_parts.specs.declared.fault.Fault.{Fault}
 use Rattle.pulse_parts.specs.declared.head.Head.{Head}
-use Rattle.pulse_parts.specs.Arguments.{isWaiting}
-use Rattle.pulse_parts.specs.Codes.{ignored, isReport, reportError, reportNextBit, reportStatus, softReset}
 use Rattle.pulse_parts.specs.Heads.{heldAt, isRun}
 use Rattle.pulse_parts.specs.Reports.{isOpen}
 use Rattle.pulse.specs.declared.calls.Step.{Step}

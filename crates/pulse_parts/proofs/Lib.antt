@@ -1,4 +1,2 @@
-pub mod CodeLaws
-pub mod ArgumentLaws
 pub mod MarkLaws
 pub mod ReportLaws

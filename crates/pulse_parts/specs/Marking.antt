@@ -3,8 +3,8 @@
 use Prim.Native.Nat.{ℕ}
 use mathlib.Core.Bool.{Bool, true, false, not, _&&_}
 use Rattle.numbers.specs.Choice.{if_then_else_}
-use Rattle.pulse_parts.specs.Codes.{needsCartridge, needsReference}
-use Rattle.pulse_parts.specs.Errors.{noError, cartridgeMissing, newCartridgePending, notReferenced}
+use Rattle.pulse_codes.specs.Codes.{needsCartridge, needsReference}
+use Rattle.pulse_codes.specs.Errors.{noError, cartridgeMissing, newCartridgePending, notReferenced}
 use Rattle.pulse_parts.specs.declared.marks.Marks.{Marks}
 
 -- no cartridge is in

@@ -2,10 +2,10 @@
 ghost use mathlib.Core.Path.{_≡_};
 ghost use mathlib.Core.Bool.{_&&_};
 ghost use Rattle.numbers.specs.Choice.{_≡ᵇ_};
-ghost use Rattle.pulse_parts.specs.Codes.{stopsMotion};
+ghost use Rattle.pulse_codes.specs.Codes.{stopsMotion};
 ghost use Rattle.pulse_parts.specs.Heads.{isStill, isRun, motionFits, standingAt, heldAt, headedFor, stoodAt, onTrack};
 ghost use Rattle.pulse_parts.specs.Heads.{toward, skippedBack, skippedOn};
-use crate::codes;
+use pulse_codes::codes;
 
 pub enum Motion {
     Still,

@@ -2,8 +2,8 @@
 ghost use mathlib.Core.Path.{_≡_};
 ghost use mathlib.Core.Bool.{true, false, not, _&&_};
 ghost use Rattle.pulse_parts.specs.Marking.{noMarks, newMarks, markAsked, markFresh, markReferenced, commandError};
-use crate::codes;
-use crate::errors;
+use pulse_codes::codes;
+use pulse_codes::errors;
 
 pub struct Marks {
     pub inside: bool,

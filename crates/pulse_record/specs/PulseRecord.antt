@@ -6,8 +6,8 @@ use mathlib.Core.List.{List, [], _∷_, _++_}
 use lib.ListN.{getD}
 use Rattle.numbers.specs.Choice.{if_then_else_, _≡ᵇ_}
 use Rattle.numbers.specs.Counts.{countAt, countBytes}
-use Rattle.pulse_parts.specs.declared.arguments.Waiting.{Waiting}
-use Rattle.pulse_parts.specs.declared.arguments.Waiting.the-variants.{Nothing, For}
+use Rattle.pulse_codes.specs.declared.arguments.Waiting.{Waiting}
+use Rattle.pulse_codes.specs.declared.arguments.Waiting.the-variants.{Nothing, For}
 use Rattle.pulse_parts.specs.declared.cartridge.Cartridge.{Cartridge}
 use Rattle.pulse_parts.specs.declared.head.Head.{Head}
 use Rattle.pulse_parts.specs.declared.head.Motion.{Motion}

@@ -11,13 +11,13 @@ use numbers::counts::put_count4;
 use numbers::flags::is_set;
 use numbers::flags::weight_of;
 use pulse::Drive;
+use pulse_codes::Waiting;
 use pulse_parts::Cartridge;
 use pulse_parts::Fault;
 use pulse_parts::Head;
 use pulse_parts::Marks;
 use pulse_parts::Motion;
 use pulse_parts::Report;
-use pulse_parts::Waiting;
 
 fn motion_of(byte: u8) -> Motion
     ensures { λ r. ⌜ r ≡ motionOf byte ⌝ }

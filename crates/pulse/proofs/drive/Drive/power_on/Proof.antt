@@ -8,12 +8,19 @@ returns : tie.Need-returns
 unfolding powerOn
 returns c =
     let b = c .before .before in
-    simp (c .no-report .ensures, c .before .no-marks .ensures, b .standing-at .ensures, b .before .no-cartridge .ensures)
+    simp (
+      c .power-on-fault .ensures,
+      c .before .no-report .ensures,
+      b .no-marks .ensures,
+      b .before .standing-at .ensures,
+      b .before .before .no-cartridge .ensures,
+    )
 
 pub power-on-spec : {M : Type 1} → statement M
 power-on-spec =
     tie.close
     (tie.spec
+    (λ c κs. tt)
     (λ c κs. tt)
     (λ c κs. tt)
     (λ c κs. tt)

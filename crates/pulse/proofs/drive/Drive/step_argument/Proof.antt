@@ -1,7 +1,7 @@
 -- `step_argument` meets its contract.
 -- Assumes nothing.
 use mathlib.Core.Path.{sym, _∙_}
-use Rattle.pulse_parts.proofs.ArgumentLaws.{value-in-range}
+use Rattle.pulse_codes.proofs.ArgumentLaws.{value-in-range}
 use borrow.Author.Needs.{needs}
 use Rattle.pulse.proofs.CommandLaws.{argumentWays}
 use Rattle.pulse.specs.Arguments.{stepArgument}

@@ -1,7 +1,7 @@
 -- `step_report` meets its contract.
 -- Assumes nothing.
 use mathlib.Core.Path.{sym, _∙_}
-use Rattle.pulse_parts.proofs.CodeLaws.{heard-byte}
+use Rattle.pulse_codes.proofs.CodeLaws.{heard-byte}
 use Rattle.pulse.proofs.ReportLaws.{reportWays}
 use Rattle.pulse.proofs.drive.Drive.step_report.Statement.{statement}
 use Rattle.pulse.proofs.drive.Drive.step_report.Tie as tie

@@ -2,7 +2,7 @@
 -- Assumes nothing.
 use native.Mathlib.Omega.{arith}
 use borrow.Author.Tests.{ne-eqb}
-use Rattle.pulse_parts.proofs.ArgumentLaws.{rate-in-range, nibble-in-range}
+use Rattle.pulse_codes.proofs.ArgumentLaws.{rate-in-range, nibble-in-range}
 use Rattle.pulse.specs.Arguments.{argumentTaken}
 use Rattle.pulse.proofs.drive.Drive.take_argument.Statement.{statement}
 use Rattle.pulse.proofs.drive.Drive.take_argument.Tie as tie

@@ -1,7 +1,7 @@
 -- `train_step` meets its contract.
 -- Assumes nothing.
 use mathlib.Core.Path.{sym, _∙_}
-use Rattle.pulse_parts.proofs.CodeLaws.{supported-byte}
+use Rattle.pulse_codes.proofs.CodeLaws.{supported-byte}
 use Rattle.pulse.proofs.TrainLaws.{trainWays}
 use Rattle.pulse.proofs.drive.Drive.train_step.Statement.{statement}
 use Rattle.pulse.proofs.drive.Drive.train_step.Tie as tie
