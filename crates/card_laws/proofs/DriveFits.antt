@@ -7,7 +7,7 @@ use native.Mathlib.Nat.{pow-le-pow-right, zero-lt-suc}
 use native.Mathlib.Omega.{arith}
 use borrow.Author.Tests.{ne-eqb, leb-true, leb-false, ltb-true, ltb-false, not-false}
 use Rattle.numbers.specs.Choice.{_≡ᵇ_, _<ᵇ_, _≤ᵇ_}
-use Rattle.numbers.proofs.Cases.{ands, either, test}
+use Rattle.numbers.proofs.Cases.{Has, ands, either, had, has, test}
 use Rattle.pulse_codes.specs.declared.arguments.Waiting.{Waiting}
 use Rattle.pulse_codes.specs.declared.arguments.Waiting.the-variants.{Nothing, For}
 use Rattle.pulse_codes.specs.Arguments.{highestNibble, highestRate, inRange, isWaiting, joined, needed, nibbleOf}
@@ -37,7 +37,7 @@ use Rattle.pulse.specs.Events.{exchanged, inserted, removed, runFor, stepsTo}
 use Rattle.pulse.specs.Motions.{arrived, latched, loadStarted, runStarted, stopped, ticked}
 use Rattle.pulse.specs.Reports.{errorRead, itemGiven, opened, reportBroken, reportOf, statusAsked, stepOpenReport, stepReport}
 use Rattle.pulse.specs.Rules.{maxFormat, maxKind}
-use Rattle.pulse.specs.Train.{cleared, stepReset, stepUnsupported, trainStep}
+use Rattle.pulse.specs.Train.{cleared, stepReset, stepNextBit, stepUnsupported, trainStep}
 use Rattle.pulse_laws.proofs.Calls.{insert-by, remove-by, tick-by, train-by, wait-by}
 use Rattle.pulse_laws.proofs.Commands.{supported-low}
 use Rattle.pulse_laws.proofs.Motion.{ended}
@@ -291,17 +291,24 @@ module _ (n : ℕ) (low : n < 2 ^ 8) where
 
 -- ---- a train
 
+unsupported-fit : (d : Drive) (n : ℕ) → Fit d → Fit (stepUnsupported d n)
+unfolding stepUnsupported
+unsupported-fit d n f =
+    either Fit (n <ᵇ reportVendor) _ _ (λ l. latch-fit d f undefinedCommand n (omega (arith, ltb-true n reportVendor l))) (λ l. f)
+
+train-has : (d : Drive) (n : ℕ) → Calm d → Fit d → Has Fit (trainStep d n)
+unfolding trainStep stepArgument
+train-has d n r f =
+    either (Has Fit) (n ≡ᵇ softReset) _ _ (λ e. has Fit _ (reset-fit d f))
+    (λ e. either (Has Fit) (isWaiting (d .waiting)) _ _ (λ e. has Fit _ (argument-fit (d .waiting) d n f))
+    (λ e. either (Has Fit) (isOpen (d .report)) _ _ (λ e. has Fit _ (in-report-fit d n f))
+    (λ e. either (Has Fit) (n ≡ᵇ reportNextBit) _ _ (λ e. has Fit (stepNextBit d) f)
+    (λ e. either (Has Fit) (not (supported n)) _ _ (λ s. has Fit _ (unsupported-fit d n f))
+    (λ s. either (Has Fit) (isReport n) _ _ (λ e. has Fit _ (open-report-fit d n r f))
+    (λ e. has Fit _ (command-fit n (omega (arith, supported-low n (not-false (supported n) s))) d f)))))))
+
 train-fit : (d : Drive) (n : ℕ) → Calm d → Fit d → Fit (trainStep d n)
-unfolding trainStep stepArgument stepUnsupported
-train-fit d n r f =
-    either Fit (n ≡ᵇ softReset) _ _ (λ e. reset-fit d f)
-    (λ e. either Fit (isWaiting (d .waiting)) _ _ (λ e. argument-fit (d .waiting) d n f)
-    (λ e. either Fit (isOpen (d .report)) _ _ (λ e. in-report-fit d n f)
-    (λ e. either Fit (n ≡ᵇ reportNextBit) _ _ (λ e. f)
-    (λ e. either Fit (not (supported n)) _ _
-    (λ s. either Fit (n <ᵇ reportVendor) _ _ (λ l. latch-fit d f undefinedCommand n (omega (arith, ltb-true n reportVendor l))) (λ l. f))
-    (λ s. either Fit (isReport n) _ _ (λ e. open-report-fit d n r f)
-    (λ e. command-fit n (omega (arith, supported-low n (not-false (supported n) s))) d f))))))
+train-fit d n r f = had Fit (trainStep d n) (train-has d n r f)
 
 -- ---- the calls; a drive that breaks the rules is left as it is
 

@@ -6,7 +6,7 @@ use mathlib.Core.Path.{_≡_, refl, sym, _∙_, ap}
 use borrow.Author.Tests.{leb-true, not-false}
 use Rattle.numbers.specs.Choice.{_<ᵇ_, _≡ᵇ_, _≤ᵇ_}
 use Rattle.numbers.specs.Member.{isIn}
-use Rattle.numbers.proofs.Cases.{ands, either, never}
+use Rattle.numbers.proofs.Cases.{Has, ands, either, had, has, never}
 use Rattle.pulse_codes.specs.declared.arguments.Waiting.{Waiting}
 use Rattle.pulse_codes.specs.declared.arguments.Waiting.the-variants.{For, Nothing}
 use Rattle.pulse_codes.specs.Arguments.{isWaiting}
@@ -24,7 +24,7 @@ use Rattle.pulse.specs.Events.{emptied, exchanged, inserted, removed, runFor}
 use Rattle.pulse.specs.Motions.{arrived, latched, loadStarted, stopped, ticked}
 use Rattle.pulse.specs.Reports.{stepOpenReport, stepReport}
 use Rattle.pulse.specs.Rules.{inRanges}
-use Rattle.pulse.specs.Train.{cleared, stepReset, stepUnsupported, trainStep}
+use Rattle.pulse.specs.Train.{cleared, stepReset, stepNextBit, stepUnsupported, trainStep}
 use Rattle.pulse_laws.proofs.Arguments.{argument-rules}
 use Rattle.pulse_laws.proofs.Commands.{command-rules}
 use Rattle.pulse_laws.proofs.Idle.{Awaits, Idle, idle-rules, latch-idle, load-waiting}
@@ -147,15 +147,22 @@ idle-by d r e k = k (r .0, nothing (d .waiting) e)
     nothing Nothing e = refl
     nothing (For code held low) e = never refl e
 
-pub train-rules : (d : Drive) (n : ℕ) → Rules d → Rules (trainStep d n)
-unfolding trainStep stepUnsupported isIn
-train-rules d n r =
-    either Rules (n ≡ᵇ softReset) _ _ (λ e. reset-rules d r)
-    (λ e. either Rules (isWaiting (d .waiting)) _ _ (λ w. argument-rules d n r)
+unsupported-rules : (d : Drive) (n : ℕ) → Rules d → Idle d → Rules (stepUnsupported d n)
+unfolding stepUnsupported isIn
+unsupported-rules d n r i =
+    either Rules (n <ᵇ reportVendor) _ _ (λ l. idle-rules (latched d undefinedCommand n) (latch-idle d undefinedCommand n refl i)) (λ l. r)
+
+train-has : (d : Drive) (n : ℕ) → Rules d → Has Rules (trainStep d n)
+unfolding trainStep
+train-has d n r =
+    either (Has Rules) (n ≡ᵇ softReset) _ _ (λ e. has Rules _ (reset-rules d r))
+    (λ e. either (Has Rules) (isWaiting (d .waiting)) _ _ (λ w. has Rules _ (argument-rules d n r))
     (λ w. idle-by d r w
-    (λ i. either Rules (isOpen (d .report)) _ _ (λ o. idle-rules (stepReport d n) (in-report-idle d n o i))
-    (λ o. either Rules (n ≡ᵇ reportNextBit) _ _ (λ f. r)
-    (λ f. either Rules (not (supported n)) _ _
-    (λ s. either Rules (n <ᵇ reportVendor) _ _ (λ l. idle-rules (latched d undefinedCommand n) (latch-idle d undefinedCommand n refl i)) (λ l. r))
-    (λ s. either Rules (isReport n) _ _ (λ p. idle-rules (stepOpenReport d n) (open-report-idle d n i))
-    (λ p. command-rules d n i (record { known = not-false (supported n) s; report = p; reset = e; next = f }) o)))))))
+    (λ i. either (Has Rules) (isOpen (d .report)) _ _ (λ o. has Rules _ (idle-rules (stepReport d n) (in-report-idle d n o i)))
+    (λ o. either (Has Rules) (n ≡ᵇ reportNextBit) _ _ (λ f. has Rules (stepNextBit d) r)
+    (λ f. either (Has Rules) (not (supported n)) _ _ (λ s. has Rules _ (unsupported-rules d n r i))
+    (λ s. either (Has Rules) (isReport n) _ _ (λ p. has Rules _ (idle-rules (stepOpenReport d n) (open-report-idle d n i)))
+    (λ p. has Rules _ (command-rules d n i (record { known = not-false (supported n) s; report = p; reset = e; next = f }) o))))))))
+
+pub train-rules : (d : Drive) (n : ℕ) → Rules d → Rules (trainStep d n)
+train-rules d n r = had Rules (trainStep d n) (train-has d n r)
