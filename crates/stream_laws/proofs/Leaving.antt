@@ -12,7 +12,6 @@ use lib.Dec.{leb, ltb, eqb}
 use lib.ListN.{length, getD, length-take}
 use Rattle.numbers.specs.Choice.{if_then_else_}
 use Rattle.numbers.specs.Member.{isIn}
-use Rattle.numbers.specs.Over.{over}
 use Rattle.numbers.proofs.Cases.{either}
 use Rattle.numbers.proofs.OverLaws.{over-length, over-above}
 use Rattle.numbers.proofs.RuleLaws.{split}
