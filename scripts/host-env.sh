@@ -19,6 +19,8 @@ if [ "$(uname -m)" != x86_64 ]; then
     export CARGO_BUILD_TARGET=x86_64-unknown-linux-gnu
     export CARGO_TARGET_X86_64_UNKNOWN_LINUX_GNU_LINKER=x86_64-linux-gnu-gcc
     export CARGO_TARGET_X86_64_UNKNOWN_LINUX_GNU_RUNNER=qemu-x86_64
+    # An emulated program that starts another while one of its own threads is at work can stop for good: one test at a time.
+    export RUST_TEST_THREADS=1
 fi
 
 TAPECARD_BIN=target/${CARGO_BUILD_TARGET:+$CARGO_BUILD_TARGET/}release

@@ -1,8 +1,6 @@
 //! Exit statuses: they say what became of the work and of the data.
 
-mod common;
-
-use common::Place;
+use crate::common::Place;
 
 const READY: &[u8] = b"00 00 00 00 00 00 00 00 00 00 00 00\n";
 const BEYOND: &[u8] = b"08 01 00 00 02 00 00 00 00 00 00 00\n";

@@ -1,8 +1,6 @@
 //! Names of every kind: long ones, wide ones, and ones that would deceive the eye.
 
-mod common;
-
-use common::Place;
+use crate::common::Place;
 
 #[test]
 fn names_are_told_unmistakably_and_in_columns() {

@@ -1,11 +1,9 @@
 //! Runs that are interrupted or killed: nothing that was answered is lost, and nothing is left lying about.
 
-mod common;
-
 use std::thread;
 use std::time::Duration;
 
-use common::{Place, Running, Said};
+use crate::common::{Place, Running, Said};
 
 const WRITE: &[u8] = b"0a01 00 00 01 00 00 00 00 00 00 00\n";
 const PART: &str = ".tapecard-";

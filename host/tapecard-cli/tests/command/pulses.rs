@@ -1,8 +1,6 @@
 //! `pulse` and `recover`: sessions with the pulse drive.
 
-mod common;
-
-use common::{Dice, Place};
+use crate::common::{Dice, Place};
 
 const INSERT: &str = "insert segments=207 tracks=28 place=40 burst format=2 type=2\n";
 

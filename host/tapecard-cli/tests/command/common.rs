@@ -1,8 +1,5 @@
 //! Runs the command in a directory of its own and holds what it said.
 
-// Each test file is a crate of its own and uses its part of this.
-#![allow(dead_code)]
-
 use std::fs;
 use std::io::{Read, Write};
 use std::os::unix::process::ExitStatusExt;

@@ -1,8 +1,6 @@
 //! The general command line: help, version, unknown words.
 
-mod common;
-
-use common::Place;
+use crate::common::Place;
 
 const COMMANDS: [&str; 8] = [
     "new", "info", "put", "get", "list", "packet", "pulse", "recover",

@@ -1,8 +1,6 @@
 //! `put`, `get` and `list`: files on a tape and back.
 
-mod common;
-
-use common::{Dice, Place};
+use crate::common::{Dice, Place};
 
 #[test]
 fn files_come_back_byte_for_byte() {

@@ -1,11 +1,9 @@
 //! What is replaced, what is not, and what a replaced file keeps.
 
-mod common;
-
 use std::fs::{self, Permissions};
 use std::os::unix::fs::{MetadataExt, PermissionsExt, chown, symlink};
 
-use common::Place;
+use crate::common::Place;
 
 const WRITE: [&str; 12] = [
     "0a", "01", "00", "00", "01", "00", "00", "00", "00", "00", "00", "00",

@@ -1,8 +1,6 @@
 //! The label of a file and its checksum, plain blocks without one, and what is left of a damaged file.
 
-mod common;
-
-use common::Place;
+use crate::common::Place;
 
 const BLOCKS_AT: usize = 32 + 16;
 const NOT_WRITTEN: &str = "so the file was not written. Take another copy of the image, or what is left of it with --salvage";

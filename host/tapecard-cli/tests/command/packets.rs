@@ -1,8 +1,6 @@
 //! `packet`: single packets and scripts.
 
-mod common;
-
-use common::{Dice, Place};
+use crate::common::{Dice, Place};
 use tapecard::bytes::opcode;
 
 const READ_2: [&str; 12] = [

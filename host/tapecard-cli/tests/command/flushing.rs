@@ -1,10 +1,8 @@
 //! What is written is flushed to the disk, the file before its name and the folder after it.
 
-mod common;
-
 use std::process::Command;
 
-use common::{Place, Said};
+use crate::common::{Place, Said};
 
 /// Tells of fsync and rename in the order of the calls; with FAILS set the folder cannot be flushed.
 const LISTENER: &str = r#"

@@ -1,12 +1,10 @@
 //! Two runs on one image, and other programs that change it meanwhile: nothing is lost.
 
-mod common;
-
 use std::fs;
 use std::thread;
 use std::time::Duration;
 
-use common::{Place, Running};
+use crate::common::{Place, Running};
 
 const WRITE: &[u8] = b"0a01 00 00 01 00 00 00 00 00 00 00\n";
 const WAITING: &str =

@@ -1,8 +1,6 @@
 //! `new` and `info`: fresh images, their strip, images that are none.
 
-mod common;
-
-use common::Place;
+use crate::common::Place;
 
 #[test]
 fn a_fresh_image_has_the_layout_of_the_card() {

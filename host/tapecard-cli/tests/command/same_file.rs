@@ -1,11 +1,9 @@
 //! Output onto an input: two words of a command line that lead to one file, whatever they are called.
 
-mod common;
-
 use std::fs;
 use std::os::unix::fs::symlink;
 
-use common::Place;
+use crate::common::Place;
 
 const READ: [&str; 12] = [
     "08", "01", "00", "00", "01", "00", "00", "00", "00", "00", "00", "00",

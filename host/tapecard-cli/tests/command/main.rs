@@ -1,0 +1,16 @@
+//! The command as its users meet it, a file a subject.
+
+mod command_line;
+mod common;
+mod files;
+mod flushing;
+mod images;
+mod interrupts;
+mod labels;
+mod names;
+mod overwriting;
+mod packets;
+mod pulses;
+mod same_file;
+mod statuses;
+mod two_at_once;
