@@ -8,8 +8,8 @@ use native.Mathlib.Omega.{arith}
 use borrow.Author.Tests.{eq-eqb, ne-eqb, eqb-true}
 use Rattle.numbers.specs.Choice.{_≡ᵇ_}
 use Rattle.numbers.specs.Member.{isIn}
-use Rattle.packet_parts.specs.declared.state.Attention.{Attention}
-use Rattle.packet_parts.specs.declared.state.Attention.the-variants.{Nothing, MediumChanged, Reset}
+use Rattle.packet_state.specs.declared.state.Attention.{Attention}
+use Rattle.packet_state.specs.declared.state.Attention.the-variants.{Nothing, MediumChanged, Reset}
 use Rattle.pulse_parts.specs.declared.head.Motion.{Motion}
 use Rattle.pulse_parts.specs.declared.head.Motion.the-variants.{Still, Run, Load}
 use Rattle.numbers.specs.Flags.{isSet, weightOf}

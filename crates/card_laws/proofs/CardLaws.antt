@@ -7,7 +7,7 @@ use Prim.Native.Nat.{ℕ}
 use borrow.Author.Tests.{ne-eqb}
 use Rattle.tapecard.proofs.Settling.{fresh-settled, change-settled, packet-settled, power-on-settled, train-settled, tick-settled}
 use Rattle.tapecard.proofs.Settling.{insert-settled, remove-settled, wait-settled}
-use Rattle.packet_parts.specs.declared.state.State.{State}
+use Rattle.packet_state.specs.declared.state.State.{State}
 use Rattle.packet_parts.specs.Answers.{Left}
 use Rattle.packet_laws.specs.Words.{Refusal}
 use Rattle.stream_laws.proofs.Refusals.{refused-keeps}

@@ -11,9 +11,9 @@ use Rattle.numbers.proofs.CountLaws.{count-bound}
 use Rattle.numbers.specs.Counts.{countAt}
 use Rattle.numbers.specs.Choice.{if_then_else_, _≡ᵇ_, _<ᵇ_}
 use Rattle.numbers.proofs.Cases.{ands}
-use Rattle.packet_parts.specs.declared.state.Attention.{Attention}
-use Rattle.packet_parts.specs.declared.state.Sense.{Sense}
-use Rattle.packet_parts.specs.declared.state.State.{State}
+use Rattle.packet_state.specs.declared.state.Attention.{Attention}
+use Rattle.packet_state.specs.declared.state.Sense.{Sense}
+use Rattle.packet_state.specs.declared.state.State.{State}
 use Rattle.pulse_codes.specs.declared.arguments.Waiting.{Waiting}
 use Rattle.pulse_codes.specs.declared.arguments.Waiting.the-variants.{Nothing, For}
 use Rattle.pulse_codes.specs.Arguments.{needed, waitingFits}

@@ -18,24 +18,24 @@ use Rattle.opcodes.specs.declared.Command.the-variants.{Space, Inquiry, ModeSel
 use Rattle.transfer.specs.declared.Moved.{Moved}
 use Rattle.transfer.specs.declared.Stop.{Stop}
 use Rattle.transfer.specs.declared.Stop.the-variants.{Full, AtFilemark, AtBadBlock, AtEnd, AtBeginning}
+use Rattle.packet_state.specs.declared.state.Attention.{Attention}
+use Rattle.packet_state.specs.declared.state.Attention.the-variants.{Nothing, MediumChanged, Reset}
+use Rattle.packet_state.specs.declared.state.Ending.{Ending}
+use Rattle.packet_state.specs.declared.state.Ending.the-variants.{Good, Check}
+use Rattle.packet_state.specs.declared.state.Outcome.{Outcome}
+use Rattle.packet_state.specs.declared.state.Sense.{Sense}
+use Rattle.packet_state.specs.declared.state.State.{State}
+use Rattle.packet_state.specs.declared.state.Verdict.{Verdict}
+use Rattle.packet_state.specs.declared.state.Verdict.the-variants.{Refuses, Ends, Works}
+use Rattle.packet_state.specs.Senses.{unitAttention}
+use Rattle.packet_state.specs.States.{changedState, freshState, keepsRecordRules}
 use Rattle.packet_parts.specs.declared.requests.Request.{Request}
-use Rattle.packet_parts.specs.declared.state.Attention.{Attention}
-use Rattle.packet_parts.specs.declared.state.Attention.the-variants.{Nothing, MediumChanged, Reset}
-use Rattle.packet_parts.specs.declared.state.Ending.{Ending}
-use Rattle.packet_parts.specs.declared.state.Ending.the-variants.{Good, Check}
-use Rattle.packet_parts.specs.declared.state.Outcome.{Outcome}
-use Rattle.packet_parts.specs.declared.state.Sense.{Sense}
-use Rattle.packet_parts.specs.declared.state.State.{State}
-use Rattle.packet_parts.specs.declared.state.Verdict.{Verdict}
-use Rattle.packet_parts.specs.declared.state.Verdict.the-variants.{Refuses, Ends, Works}
 use Rattle.packet_parts.specs.Answers.{Left, ends}
 use Rattle.packet_parts.specs.declared.verdicts.Asked.{Asked}
 use Rattle.packet_parts.specs.Replies.{replyEnds}
 use Rattle.packet_parts.specs.Requests.{packetLength}
 use Rattle.packet_parts.specs.Shell.{carriedOut, decided, answersTo}
 use Rattle.packet_parts.specs.Verdicts.{foundFirst, verdictBy}
-use Rattle.packet_parts.specs.Senses.{unitAttention}
-use Rattle.packet_parts.specs.States.{changedState, freshState, keepsRecordRules}
 use Rattle.stream.specs.Packet.{streamDevice, packetStep}
 use Rattle.stream.specs.Work.{endingOf, loadWork, locateWork, markWork, readEnds, readWork, selectWork, spaceWork, workOf}
 use Rattle.stream.specs.Work.{writeEnding, writeEnds, writeWork}

@@ -12,11 +12,11 @@ use Rattle.numbers.specs.Choice.{if_then_else_}
 use Rattle.numbers.specs.Counts.{countAt}
 use Rattle.numbers.proofs.CountLaws.{count-bound}
 use Rattle.image.proofs.HeaderLaws.{sound}
+use Rattle.packet_state.specs.declared.state.State.{State}
 use Rattle.packet_parts.specs.Answers.{Left}
-use Rattle.packet_parts.specs.declared.state.State.{State}
 use Rattle.packet_parts.specs.Requests.{requestUnder}
 use Rattle.stream_parts.specs.Requests.{requestOf}
-use Rattle.packet_parts.specs.States.{speeds, freshState}
+use Rattle.packet_state.specs.States.{speeds, freshState}
 use Rattle.stream.specs.Packet.{packetStep}
 use Rattle.packet_laws.specs.Words.{numberOf, blocksOf, bytesOf}
 use Rattle.stream_laws.proofs.Leaving.{accepted-leaves}

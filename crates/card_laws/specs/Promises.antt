@@ -5,7 +5,7 @@ use mathlib.Core.Bool.{true}
 use mathlib.Core.List.{List, map}
 use Prim.Native.Nat.{ℕ, _^_, _<_, _≤_}
 use lib.ListN.{getD}
-use Rattle.packet_parts.specs.declared.state.State.{State}
+use Rattle.packet_state.specs.declared.state.State.{State}
 use Rattle.pulse_codes.specs.declared.arguments.Waiting.{Waiting}
 use Rattle.pulse_codes.specs.declared.arguments.Waiting.the-variants.{Nothing, For}
 use Rattle.pulse.specs.declared.drive.Drive.{Drive}
@@ -15,7 +15,7 @@ use Rattle.pulse.specs.Rules.{keepsRules}
 use Rattle.pulse_laws.specs.Demands.{Recovered, Regained}
 use Rattle.pulse_laws.specs.Runs.{answers, pacedAnswers, recoveryTrains, silentTicks}
 use Rattle.card_laws.specs.Sessions.{answersOn, pacedAnswersOn, pacedOn, ticksOn, told, trainsOn}
-use Rattle.packet_parts.specs.States.{freshState, changedState}
+use Rattle.packet_state.specs.States.{freshState, changedState}
 use Rattle.stream.specs.Packet.{packetStep}
 use Rattle.packet_laws.specs.Words.{blocksOf, bytesOf}
 use Rattle.numbers.specs.Counts.{countAt}

@@ -8,8 +8,8 @@ use mathlib.Core.Path.{_≡_, refl, sym, ap, subst, _∙_}
 use borrow.Author.Tests.{eq-eqb, ne-eqb}
 use lib.ListN.{length}
 use Rattle.image.specs.Header.{fieldsOf}
-use Rattle.packet_parts.specs.declared.state.Verdict.{Verdict}
-use Rattle.packet_parts.specs.declared.state.Verdict.the-variants.{Works}
+use Rattle.packet_state.specs.declared.state.Verdict.{Verdict}
+use Rattle.packet_state.specs.declared.state.Verdict.the-variants.{Works}
 use Rattle.packet_parts.specs.Answers.{Left, notTwelveBytes, shortBuffer}
 use Rattle.packet_parts.specs.Requests.{packetLength}
 use Rattle.packet_parts.specs.Shell.{Device, refuses, carriedOut, answersTo}

@@ -6,7 +6,7 @@ use mathlib.Core.List.{List}
 use mathlib.Core.Path.{_≡_}
 use lib.ListN.{length}
 use Rattle.image.specs.Header.{fieldsOf, brokenImage}
-use Rattle.packet_parts.specs.declared.state.Verdict.the-variants.{Works}
+use Rattle.packet_state.specs.declared.state.Verdict.the-variants.{Works}
 use Rattle.packet_parts.specs.Answers.{Left, notTwelveBytes, unrulyRecord, shortBuffer}
 use Rattle.packet_parts.specs.Requests.{packetLength}
 use Rattle.packet_parts.specs.Shell.{Device, foundBy, endsFirst, answersTo}

@@ -5,9 +5,9 @@ use mathlib.Core.List.{List}
 use Prim.Native.Nat.{ℕ, min}
 use lib.ListN.{length, take}
 use Rattle.numbers.specs.Over.{over}
-use Rattle.packet_parts.specs.declared.state.Ending.the-variants.{Good}
-use Rattle.packet_parts.specs.declared.state.Outcome.{Outcome}
-use Rattle.packet_parts.specs.declared.state.State.{State}
+use Rattle.packet_state.specs.declared.state.Ending.the-variants.{Good}
+use Rattle.packet_state.specs.declared.state.Outcome.{Outcome}
+use Rattle.packet_state.specs.declared.state.State.{State}
 use Rattle.packet_parts.specs.Answers.{ends}
 use Rattle.packet_parts.specs.Replies.{firstOf, replyEnds, repliedInto}
 

@@ -2,15 +2,15 @@
 -- Assumes nothing.
 use Prim.Native.Nat.{ℕ}
 use mathlib.Core.List.{List}
-use Rattle.packet_parts.specs.declared.state.Answer.{Answer}
-use Rattle.packet_parts.specs.declared.state.Attention.the-variants.{Nothing}
-use Rattle.packet_parts.specs.declared.state.Ending.{Ending}
-use Rattle.packet_parts.specs.declared.state.Ending.the-variants.{Good, Check}
-use Rattle.packet_parts.specs.declared.state.Outcome.{Outcome}
-use Rattle.packet_parts.specs.declared.state.Sense.{Sense}
-use Rattle.packet_parts.specs.declared.state.State.{State}
-use Rattle.packet_parts.specs.Senses.{noSense}
-use Rattle.packet_parts.specs.States.{withAttention, withSense}
+use Rattle.packet_state.specs.declared.state.Answer.{Answer}
+use Rattle.packet_state.specs.declared.state.Attention.the-variants.{Nothing}
+use Rattle.packet_state.specs.declared.state.Ending.{Ending}
+use Rattle.packet_state.specs.declared.state.Ending.the-variants.{Good, Check}
+use Rattle.packet_state.specs.declared.state.Outcome.{Outcome}
+use Rattle.packet_state.specs.declared.state.Sense.{Sense}
+use Rattle.packet_state.specs.declared.state.State.{State}
+use Rattle.packet_state.specs.Senses.{noSense}
+use Rattle.packet_state.specs.States.{withAttention, withSense}
 
 -- everything that a packet leaves of a device with the record R: answer and record, image, buffer
 pub record Left (R : Type 0) : Type 0 where

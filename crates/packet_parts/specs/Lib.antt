@@ -1,5 +1,3 @@
-pub mod States
-pub mod Senses
 pub mod Requests
 pub mod Answers
 pub mod Verdicts

@@ -8,10 +8,10 @@ use Rattle.numbers.specs.Counts.{countBytes}
 use Rattle.numbers.specs.Flags.{weightOf}
 use Rattle.numbers.specs.Over.{over}
 use Rattle.image.specs.declared.header.Header.{Header}
-use Rattle.packet_parts.specs.declared.state.Ending.the-variants.{Good}
-use Rattle.packet_parts.specs.declared.state.Outcome.{Outcome}
-use Rattle.packet_parts.specs.declared.state.Sense.{Sense}
-use Rattle.packet_parts.specs.declared.state.State.{State}
+use Rattle.packet_state.specs.declared.state.Ending.the-variants.{Good}
+use Rattle.packet_state.specs.declared.state.Outcome.{Outcome}
+use Rattle.packet_state.specs.declared.state.Sense.{Sense}
+use Rattle.packet_state.specs.declared.state.State.{State}
 use Rattle.packet_parts.specs.Answers.{ends}
 use Rattle.packet_parts.specs.Verdicts.{isProtected}
 

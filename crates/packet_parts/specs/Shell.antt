@@ -8,10 +8,10 @@ use Rattle.numbers.specs.Choice.{if_then_else_, _≡ᵇ_}
 use Rattle.image.specs.declared.header.Header.{Header}
 use Rattle.image.specs.declared.header.Judged.the-variants.{Broken}
 use Rattle.image.specs.Header.{fieldsOf, refusalOf}
+use Rattle.packet_state.specs.declared.state.State.{State}
+use Rattle.packet_state.specs.declared.state.Verdict.{Verdict}
+use Rattle.packet_state.specs.declared.state.Verdict.the-variants.{Refuses, Ends, Works}
 use Rattle.packet_parts.specs.declared.requests.Request.{Request}
-use Rattle.packet_parts.specs.declared.state.State.{State}
-use Rattle.packet_parts.specs.declared.state.Verdict.{Verdict}
-use Rattle.packet_parts.specs.declared.state.Verdict.the-variants.{Refuses, Ends, Works}
 use Rattle.packet_parts.specs.declared.verdicts.Asked.{Asked}
 use Rattle.packet_parts.specs.Answers.{Left, refusal, answered, endedBefore, checkCondition, notTwelveBytes, unrulyRecord}
 use Rattle.packet_parts.specs.Requests.{packetLength}

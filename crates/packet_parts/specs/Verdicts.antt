@@ -4,14 +4,14 @@ use Prim.Native.Nat.{ℕ}
 use mathlib.Core.Bool.{Bool, true, false, not, _&&_, _||_}
 use Rattle.numbers.specs.Choice.{if_then_else_, _≡ᵇ_, _<ᵇ_}
 use Rattle.image.specs.declared.header.Header.{Header}
-use Rattle.packet_parts.specs.declared.state.Attention.{Attention}
-use Rattle.packet_parts.specs.declared.state.Attention.the-variants.{Nothing, MediumChanged, Reset}
-use Rattle.packet_parts.specs.declared.state.State.{State}
-use Rattle.packet_parts.specs.declared.state.Verdict.{Verdict}
-use Rattle.packet_parts.specs.declared.state.Verdict.the-variants.{Refuses, Ends, Works}
+use Rattle.packet_state.specs.declared.state.Attention.{Attention}
+use Rattle.packet_state.specs.declared.state.Attention.the-variants.{Nothing, MediumChanged, Reset}
+use Rattle.packet_state.specs.declared.state.State.{State}
+use Rattle.packet_state.specs.declared.state.Verdict.{Verdict}
+use Rattle.packet_state.specs.declared.state.Verdict.the-variants.{Refuses, Ends, Works}
+use Rattle.packet_state.specs.Senses.{unitAttention, invalidOpcode, invalidField, wrongListLength, notLoaded, writeProtected}
 use Rattle.packet_parts.specs.declared.verdicts.Asked.{Asked}
 use Rattle.packet_parts.specs.Answers.{shortBuffer}
-use Rattle.packet_parts.specs.Senses.{unitAttention, invalidOpcode, invalidField, wrongListLength, notLoaded, writeProtected}
 
 abbrev pub isProtected : Header → Bool
 isProtected h = h .protect ≡ᵇ 1

@@ -1,15 +1,15 @@
 // What a packet's answer is made of.
 ghost use mathlib.Core.Path.{_≡_};
+use packet_state::senses::no_sense;
+use packet_state::state::Answer;
+use packet_state::state::Attention;
+use packet_state::state::Ending;
+use packet_state::state::Outcome;
+use packet_state::state::Sense;
+use packet_state::state::State;
+use packet_state::state::with_attention;
+use packet_state::state::with_sense;
 ghost use Rattle.packet_parts.specs.Answers.{answered, refused, endsBefore, answeredWith, ends};
-use crate::senses::no_sense;
-use crate::state::Answer;
-use crate::state::Attention;
-use crate::state::Ending;
-use crate::state::Outcome;
-use crate::state::Sense;
-use crate::state::State;
-use crate::state::with_attention;
-use crate::state::with_sense;
 
 const GOOD: u8 = 0;
 

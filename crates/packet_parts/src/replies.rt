@@ -4,16 +4,16 @@ ghost use Prim.Native.Nat.{_≤_, min};
 ghost use lib.ListN.{length};
 ghost use Rattle.packet_parts.specs.Replies.{senseBytes, inquiryBytes, modeHeader, devicePageBytes, replyEnds, repliedInto};
 use crate::answers::end;
-use crate::state::Ending;
-use crate::state::Outcome;
-use crate::state::Sense;
-use crate::state::State;
 use image::header::Header;
 use numbers::copying::copy_block;
 use numbers::counts::put_count2;
 use numbers::counts::put_count4;
 use numbers::flags::weight_of;
 use numbers::sizes::least;
+use packet_state::state::Ending;
+use packet_state::state::Outcome;
+use packet_state::state::Sense;
+use packet_state::state::State;
 
 pub const DEVICE_PAGE: u8 = 0x2A;
 

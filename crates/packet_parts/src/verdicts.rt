@@ -1,15 +1,15 @@
 // What is judged before the work: "attention, opcode, fields, not ready, protection, 4".
 ghost use mathlib.Core.Path.{_≡_};
+use packet_state::senses::invalid_field;
+use packet_state::senses::invalid_opcode;
+use packet_state::senses::not_loaded;
+use packet_state::senses::unit_attention;
+use packet_state::senses::write_protected;
+use packet_state::senses::wrong_list_length;
+use packet_state::state::Attention;
+use packet_state::state::State;
+use packet_state::state::Verdict;
 ghost use Rattle.packet_parts.specs.Verdicts.{noCommand, always, settings, onTape, storing, isHeld, foundFirst, verdictBy};
-use crate::senses::invalid_field;
-use crate::senses::invalid_opcode;
-use crate::senses::not_loaded;
-use crate::senses::unit_attention;
-use crate::senses::write_protected;
-use crate::senses::wrong_list_length;
-use crate::state::Attention;
-use crate::state::State;
-use crate::state::Verdict;
 
 const SHORT_BUFFER: u8 = 4;
 

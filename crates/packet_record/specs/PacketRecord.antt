@@ -5,10 +5,10 @@ use mathlib.Core.List.{List, [], _∷_, _++_}
 use lib.ListN.{getD}
 use Rattle.numbers.specs.Choice.{if_then_else_, _≡ᵇ_}
 use Rattle.numbers.specs.Counts.{countAt, countBytes}
-use Rattle.packet_parts.specs.declared.state.Answer.{Answer}
-use Rattle.packet_parts.specs.declared.state.Attention.{Attention}
-use Rattle.packet_parts.specs.declared.state.Attention.the-variants.{Nothing, MediumChanged, Reset}
-use Rattle.packet_parts.specs.declared.state.State.{State}
+use Rattle.packet_state.specs.declared.state.Answer.{Answer}
+use Rattle.packet_state.specs.declared.state.Attention.{Attention}
+use Rattle.packet_state.specs.declared.state.Attention.the-variants.{Nothing, MediumChanged, Reset}
+use Rattle.packet_state.specs.declared.state.State.{State}
 use Rattle.numbers.specs.Flags.{isSet, weightOf}
 
 -- "attention: 0 none, 1 medium changed, 2 reset"; any other byte is read as 0

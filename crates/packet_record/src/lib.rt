@@ -9,10 +9,10 @@ use numbers::counts::put_count2;
 use numbers::counts::put_count4;
 use numbers::flags::is_set;
 use numbers::flags::weight_of;
-use packet_parts::state::Answer;
-use packet_parts::state::Attention;
-use packet_parts::state::Sense;
-use packet_parts::state::State;
+use packet_state::state::Answer;
+use packet_state::state::Attention;
+use packet_state::state::Sense;
+use packet_state::state::State;
 
 fn attention_of(byte: u8) -> Attention
     ensures { λ r. ⌜ r ≡ attentionOf byte ⌝ }

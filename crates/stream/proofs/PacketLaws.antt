@@ -12,15 +12,15 @@ use Rattle.image.specs.declared.header.Judged.{Judged}
 use Rattle.image.specs.declared.header.Judged.the-variants.{Good, Broken}
 use Rattle.image.specs.Header.{headerOf}
 use Rattle.image.proofs.HeaderLaws.{fields-are, keeps-of, broken-of}
+use Rattle.packet_state.specs.declared.state.Outcome.{Outcome}
+use Rattle.packet_state.specs.declared.state.Sense.{Sense}
+use Rattle.packet_state.specs.declared.state.State.{State}
+use Rattle.packet_state.specs.declared.state.Verdict.{Verdict}
+use Rattle.packet_state.specs.declared.state.Verdict.the-variants.{Refuses, Ends, Works}
+use Rattle.packet_state.specs.States.{keepsRecordRules}
 use Rattle.packet_parts.specs.declared.requests.Request.{Request}
-use Rattle.packet_parts.specs.declared.state.Outcome.{Outcome}
-use Rattle.packet_parts.specs.declared.state.Sense.{Sense}
-use Rattle.packet_parts.specs.declared.state.State.{State}
-use Rattle.packet_parts.specs.declared.state.Verdict.{Verdict}
-use Rattle.packet_parts.specs.declared.state.Verdict.the-variants.{Refuses, Ends, Works}
 use Rattle.packet_parts.specs.Answers.{done, refused, endsBefore}
 use Rattle.packet_parts.specs.Shell.{carriedOut, foundBy, decided, answersTo}
-use Rattle.packet_parts.specs.States.{keepsRecordRules}
 use Rattle.stream_parts.specs.Requests.{requestOf}
 use Rattle.stream.specs.Packet.{streamDevice, packetStep}
 use Rattle.stream.specs.Work.{workOf}

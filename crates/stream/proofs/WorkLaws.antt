@@ -14,16 +14,16 @@ use Rattle.transfer.specs.Reading.{Reading, reads, readFrom}
 use Rattle.transfer.specs.Writing.{Writing, writes, writeFrom, markFrom}
 use Rattle.transfer.proofs.ReadLaws.{read-left}
 use Rattle.transfer.proofs.WriteLaws.{lay-left}
+use Rattle.packet_state.specs.declared.state.Ending.{Ending}
+use Rattle.packet_state.specs.declared.state.Ending.the-variants.{Good}
+use Rattle.packet_state.specs.declared.state.Outcome.{Outcome}
+use Rattle.packet_state.specs.declared.state.State.{State}
 use Rattle.packet_parts.specs.declared.requests.Request.{Request}
-use Rattle.packet_parts.specs.declared.state.Ending.{Ending}
-use Rattle.packet_parts.specs.declared.state.Ending.the-variants.{Good}
-use Rattle.packet_parts.specs.declared.state.Outcome.{Outcome}
-use Rattle.packet_parts.specs.declared.state.State.{State}
 use Rattle.packet_parts.specs.Answers.{done, ends}
 use Rattle.stream_parts.specs.Checks.{askedBy}
+use Rattle.packet_state.specs.States.{atPlace}
 use Rattle.packet_parts.specs.Replies.{senseBytes, modeHeader, replyEnds, repliedInto}
 use Rattle.packet_parts.specs.Requests.{loadBit}
-use Rattle.packet_parts.specs.States.{atPlace}
 use Rattle.stream_parts.specs.Replies.{streamInquiry, hasPage, modePage, modeBytes, positionBytes}
 use Rattle.stream_parts.specs.Requests.{spaceCode}
 use Rattle.stream.specs.Work.{endingOf, moves, readEnds, readWork, writeEnding, writeEnds, writeWork, markWork, spaceWork, selectWork, loadWork}

@@ -4,11 +4,11 @@ use Prim.Native.Nat.{ℕ}
 use mathlib.Core.List.{List}
 use mathlib.Core.Path.{_≡_}
 use Rattle.image.specs.Header.{keepsHeaderRules}
-use Rattle.packet_parts.specs.declared.state.Outcome.{Outcome}
-use Rattle.packet_parts.specs.declared.state.State.{State}
+use Rattle.packet_state.specs.declared.state.Outcome.{Outcome}
+use Rattle.packet_state.specs.declared.state.State.{State}
+use Rattle.packet_state.specs.States.{freshState, changedState, keepsRecordRules}
 use Rattle.packet_parts.specs.Answers.{Left, done}
 use Rattle.packet_parts.specs.Shell.{Device, answersTo}
-use Rattle.packet_parts.specs.States.{freshState, changedState, keepsRecordRules}
 use Rattle.stream_parts.specs.Checks.{askedBy}
 use Rattle.stream_parts.specs.Requests.{requestOf}
 use Rattle.stream.specs.Work.{workOf}

@@ -21,18 +21,18 @@ use Rattle.transfer.specs.declared.Stop.the-variants.{Full, AtFilemark, AtBadBl
 use Rattle.transfer.specs.Reading.{Reading, readFrom}
 use Rattle.transfer.specs.Writing.{Writing, writeFrom, markFrom}
 use Rattle.transfer.specs.Spacing.{blocksOn, blocksBack, marksOn, marksBack}
+use Rattle.packet_state.specs.declared.state.Ending.{Ending}
+use Rattle.packet_state.specs.declared.state.Ending.the-variants.{Good, Check}
+use Rattle.packet_state.specs.declared.state.Outcome.{Outcome}
+use Rattle.packet_state.specs.declared.state.State.{State}
 use Rattle.packet_parts.specs.declared.requests.Request.{Request}
-use Rattle.packet_parts.specs.declared.state.Ending.{Ending}
-use Rattle.packet_parts.specs.declared.state.Ending.the-variants.{Good, Check}
-use Rattle.packet_parts.specs.declared.state.Outcome.{Outcome}
-use Rattle.packet_parts.specs.declared.state.State.{State}
 use Rattle.packet_parts.specs.Answers.{Left, done, ends}
 use Rattle.packet_parts.specs.Replies.{senseBytes, devicePage, devicePageLength, shortList, fullList, replyEnds, repliedInto}
 use Rattle.packet_parts.specs.Requests.{loadBit}
 use Rattle.stream_parts.specs.Replies.{streamInquiry, modeBytes, positionBytes, positionLength, pastWarning}
 use Rattle.stream_parts.specs.Requests.{spaceCode, overBlocks, toEndOfData, isBack, magnitude}
-use Rattle.packet_parts.specs.Senses.{filemarkDetected, unreadableBlock, endOfData, volumeOverflow, earlyWarning, beginningOfTape, beyondData, wrongList}
-use Rattle.packet_parts.specs.States.{speeds, highestKey, atPlace, withLoaded, withSpeed}
+use Rattle.packet_state.specs.Senses.{filemarkDetected, unreadableBlock, endOfData, volumeOverflow, earlyWarning, beginningOfTape, beyondData, wrongList}
+use Rattle.packet_state.specs.States.{speeds, highestKey, atPlace, withLoaded, withSpeed}
 
 -- what a packet has passed when it comes to its work: the image has the header h, the record keeps rule 3, and a count has three bytes
 pub record Passed (s : List ℕ) (h : Header) (st : State) (q : Request) : Type 0 where

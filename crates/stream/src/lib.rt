@@ -13,12 +13,12 @@ use image::header::header_of;
 use packet_parts::answers::end_before;
 use packet_parts::answers::refuse;
 use packet_parts::requests::Request;
-use packet_parts::rules::keeps_record_rules;
-use packet_parts::state::Outcome;
-use packet_parts::state::State;
-use packet_parts::state::Verdict;
-use packet_parts::state::changed_state;
-use packet_parts::state::fresh_state;
+use packet_state::rules::keeps_record_rules;
+use packet_state::state::Outcome;
+use packet_state::state::State;
+use packet_state::state::Verdict;
+use packet_state::state::changed_state;
+use packet_state::state::fresh_state;
 use stream_parts::checks::verdict;
 use stream_parts::requests::request_of;
 

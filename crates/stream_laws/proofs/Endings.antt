@@ -14,15 +14,15 @@ use Rattle.transfer.specs.declared.Moved.{Moved}
 use Rattle.transfer.specs.declared.Stop.{Stop}
 use Rattle.transfer.specs.declared.Stop.the-variants.{Full, AtFilemark, AtBadBlock, AtEnd, AtBeginning}
 use Rattle.transfer.proofs.EndLaws.{Ended}
-use Rattle.packet_parts.specs.declared.state.Ending.{Ending}
-use Rattle.packet_parts.specs.declared.state.Ending.the-variants.{Good, Check}
-use Rattle.packet_parts.specs.declared.state.Sense.{Sense}
-use Rattle.packet_parts.specs.declared.state.State.{State}
+use Rattle.packet_state.specs.declared.state.Ending.{Ending}
+use Rattle.packet_state.specs.declared.state.Ending.the-variants.{Good, Check}
+use Rattle.packet_state.specs.declared.state.Sense.{Sense}
+use Rattle.packet_state.specs.declared.state.State.{State}
 use Rattle.packet_parts.specs.Answers.{answeredWith, ends, goodStatus, checkCondition}
 use Rattle.packet_parts.proofs.VerdictLaws.{Modest}
 use Rattle.stream_parts.specs.Replies.{pastWarning}
-use Rattle.packet_parts.specs.Senses.{noSense}
-use Rattle.packet_parts.specs.States.{speeds, highestKey, keepsRecordRules}
+use Rattle.packet_state.specs.Senses.{noSense}
+use Rattle.packet_state.specs.States.{speeds, highestKey, keepsRecordRules}
 use Rattle.stream.specs.Work.{endingOf, writeEnding}
 use Rattle.stream_laws.specs.Words.{residueOf}
 

@@ -24,14 +24,14 @@ use Rattle.transfer.proofs.LaidLaws.{block-of}
 use Rattle.transfer.proofs.SameLaws.{Same, of-alike, LaidSame, laid-same, mark-same, block-same, read-same, blocks-on-same, blocks-back-same}
 use Rattle.transfer.proofs.SameLaws.{marks-on-same, marks-back-same}
 use Rattle.transfer.specs.Writing.{Writing}
+use Rattle.packet_state.specs.declared.state.Outcome.{Outcome}
+use Rattle.packet_state.specs.declared.state.State.{State}
+use Rattle.packet_state.specs.declared.state.Verdict.{Verdict}
 use Rattle.packet_parts.specs.declared.requests.Request.{Request}
-use Rattle.packet_parts.specs.declared.state.Outcome.{Outcome}
-use Rattle.packet_parts.specs.declared.state.State.{State}
-use Rattle.packet_parts.specs.declared.state.Verdict.{Verdict}
 use Rattle.packet_parts.specs.Answers.{Left, done, notTwelveBytes, unrulyRecord}
 use Rattle.stream_parts.specs.Checks.{askedBy}
 use Rattle.stream_parts.specs.Requests.{requestOf, magnitude, spaceCode}
-use Rattle.packet_parts.specs.States.{keepsRecordRules}
+use Rattle.packet_state.specs.States.{keepsRecordRules}
 use Rattle.packet_parts.specs.Requests.{packetLength}
 use Rattle.packet_parts.specs.Shell.{refuses, carriedOut, decided, answersTo}
 use Rattle.packet_parts.specs.Verdicts.{isProtected}

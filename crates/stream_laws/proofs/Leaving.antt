@@ -34,12 +34,12 @@ use Rattle.transfer.proofs.WriteLaws.{lay-run, lay-left, lay-passed}
 use Rattle.transfer.proofs.LaidLaws.{Laid, Apart, marks-laid, blocks-laid}
 use Rattle.transfer.proofs.SpaceLaws.{blocks-on-ended, blocks-on-place, blocks-back-ended, blocks-back-place, marks-on-ended, marks-on-place}
 use Rattle.transfer.proofs.SpaceLaws.{marks-back-ended, marks-back-place}
+use Rattle.packet_state.specs.declared.state.Ending.{Ending}
+use Rattle.packet_state.specs.declared.state.Ending.the-variants.{Good, Check}
+use Rattle.packet_state.specs.declared.state.Outcome.{Outcome}
+use Rattle.packet_state.specs.declared.state.Sense.{Sense}
+use Rattle.packet_state.specs.declared.state.State.{State}
 use Rattle.packet_parts.specs.declared.requests.Request.{Request}
-use Rattle.packet_parts.specs.declared.state.Ending.{Ending}
-use Rattle.packet_parts.specs.declared.state.Ending.the-variants.{Good, Check}
-use Rattle.packet_parts.specs.declared.state.Outcome.{Outcome}
-use Rattle.packet_parts.specs.declared.state.Sense.{Sense}
-use Rattle.packet_parts.specs.declared.state.State.{State}
 use Rattle.packet_parts.specs.Answers.{Left, done, ends, endsBefore}
 use Rattle.stream_parts.specs.Checks.{askedBy}
 use Rattle.packet_parts.specs.Replies.{senseBytes, devicePage, devicePageLength, shortList, fullList, modeHeader, firstOf, replyEnds, repliedInto}
@@ -49,8 +49,8 @@ use Rattle.packet_parts.proofs.VerdictLaws.{Modest}
 use Rattle.stream_parts.specs.Replies.{positionLength, streamInquiry, modeBytes, positionBytes, modeLength, hasPage, modePage}
 use Rattle.stream.specs.Packet.{streamDevice, packetStep}
 use Rattle.stream_parts.specs.Requests.{requestOf, spaceCode, isBack, overBlocks, toEndOfData, magnitude}
-use Rattle.packet_parts.specs.Senses.{wrongList, beyondData}
-use Rattle.packet_parts.specs.States.{speeds, keepsRecordRules, atPlace, withSpeed}
+use Rattle.packet_state.specs.Senses.{wrongList, beyondData}
+use Rattle.packet_state.specs.States.{speeds, keepsRecordRules, atPlace, withSpeed}
 use Rattle.stream.specs.Work.{moves, endingOf, readEnds, readWork, writeEnding, writeEnds, writeWork, markWork, spaceRun, spaceWork}
 use Rattle.stream.specs.Work.{replyWork, listSpeed, goodList, selectWork, loadWork, locateWork, workOf}
 use Rattle.packet_laws.specs.Words.{numberOf, blocksOf, bytesOf}

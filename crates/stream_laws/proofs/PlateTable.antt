@@ -17,7 +17,7 @@ use Rattle.packet_parts.specs.Shell.{carriedOut, decided, answersTo}
 use Rattle.packet_parts.specs.Verdicts.{foundFirst, verdictBy}
 use Rattle.stream_parts.specs.Checks.{askedBy}
 use Rattle.stream_parts.specs.Requests.{requestOf, isBack, magnitude}
-use Rattle.packet_parts.specs.States.{keepsRecordRules}
+use Rattle.packet_state.specs.States.{keepsRecordRules}
 use Rattle.stream.specs.Work.{endingOf, readEnds, readWork, writeEnding, writeEnds, writeWork, markWork, spaceRun, spaceWork, goodList, selectWork}
 use Rattle.stream.specs.Work.{loadWork, locateWork, workOf}
 use Rattle.stream_laws.specs.Demands.{PlatesPrint, WorkBegins}

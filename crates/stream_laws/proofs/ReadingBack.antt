@@ -18,8 +18,8 @@ use Rattle.image.proofs.HeaderLaws.{fields-are, good-header, is-block, sound}
 use Rattle.opcodes.specs.declared.Command.the-variants.{Read}
 use Rattle.transfer.specs.Reading.{readFrom}
 use Rattle.transfer.proofs.ReadLaws.{read-run, read-left, read-block, data-moved, read-first}
+use Rattle.packet_state.specs.declared.state.State.{State}
 use Rattle.packet_parts.specs.declared.requests.Request.{Request}
-use Rattle.packet_parts.specs.declared.state.State.{State}
 use Rattle.packet_parts.specs.Answers.{Left}
 use Rattle.stream_parts.specs.Checks.{askedBy}
 use Rattle.stream.specs.Packet.{streamDevice, packetStep}

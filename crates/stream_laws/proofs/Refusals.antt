@@ -2,9 +2,9 @@
 -- Assumes nothing.
 use mathlib.Core.Path.{sym, ap, _∙_}
 use Rattle.numbers.proofs.Cases.{settles}
-use Rattle.packet_parts.specs.declared.state.State.{State}
+use Rattle.packet_state.specs.declared.state.State.{State}
+use Rattle.packet_state.specs.States.{freshState, changedState}
 use Rattle.packet_parts.specs.Answers.{Left}
-use Rattle.packet_parts.specs.States.{freshState, changedState}
 use Rattle.packet_laws.specs.Words.{Working}
 use Rattle.packet_laws.proofs.Refusals as any-device
 use Rattle.stream.specs.Packet.{streamDevice}

@@ -20,12 +20,12 @@ use Rattle.image.specs.Elements.{holdsData, isFilemark, kindAt}
 use Rattle.image.specs.Header.{fieldsOf, withRecorded}
 use Rattle.image.specs.Sameness.{ReadsSame}
 use Rattle.image.proofs.HeaderLaws.{good-header}
-use Rattle.packet_parts.specs.declared.state.Answer.{Answer}
-use Rattle.packet_parts.specs.declared.state.Sense.{Sense}
-use Rattle.packet_parts.specs.declared.state.State.{State}
+use Rattle.packet_state.specs.declared.state.Answer.{Answer}
+use Rattle.packet_state.specs.declared.state.Sense.{Sense}
+use Rattle.packet_state.specs.declared.state.State.{State}
+use Rattle.packet_state.specs.Senses.{volumeOverflow}
+use Rattle.packet_state.specs.States.{atPlace, withSense}
 use Rattle.packet_parts.specs.Answers.{Left}
-use Rattle.packet_parts.specs.Senses.{volumeOverflow}
-use Rattle.packet_parts.specs.States.{atPlace, withSense}
 use Rattle.packet_laws.specs.Words.{statusOf, blocksOf, bytesOf}
 use Rattle.stream_parts.specs.Requests.{requestOf}
 use Rattle.stream.specs.Packet.{packetStep}

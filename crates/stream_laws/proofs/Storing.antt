@@ -21,8 +21,8 @@ use Rattle.opcodes.specs.declared.Command.the-variants.{Write, WriteFilemarks}
 use Rattle.transfer.specs.Writing.{blockOf, writeFrom, markOf, markFrom}
 use Rattle.transfer.proofs.LaidLaws.{marks-laid, marks-read-back, blocks-laid, blocks-read-back}
 use Rattle.transfer.proofs.WriteLaws.{lay-run, lay-left, lay-passed}
+use Rattle.packet_state.specs.declared.state.State.{State}
 use Rattle.packet_parts.specs.declared.requests.Request.{Request}
-use Rattle.packet_parts.specs.declared.state.State.{State}
 use Rattle.stream_parts.specs.Checks.{askedBy}
 use Rattle.stream_parts.specs.Requests.{requestOf}
 use Rattle.stream.specs.Packet.{streamDevice, packetStep}

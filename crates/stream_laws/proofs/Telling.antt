@@ -18,12 +18,12 @@ use Rattle.transfer.specs.Writing.{blockOf, markOf}
 use Rattle.transfer.proofs.ReadLaws.{read-run}
 use Rattle.transfer.proofs.WriteLaws.{lay-run}
 use Rattle.transfer.proofs.StopLaws.{ReadStops, read-stops, LayStops, lay-stops}
+use Rattle.packet_state.specs.declared.state.Ending.the-variants.{Good, Check}
+use Rattle.packet_state.specs.declared.state.Sense.{Sense}
+use Rattle.packet_state.specs.declared.state.State.{State}
+use Rattle.packet_state.specs.Senses.{earlyWarning}
+use Rattle.packet_state.specs.States.{atPlace, withSense}
 use Rattle.packet_parts.specs.declared.requests.Request.{Request}
-use Rattle.packet_parts.specs.declared.state.Ending.the-variants.{Good, Check}
-use Rattle.packet_parts.specs.declared.state.Sense.{Sense}
-use Rattle.packet_parts.specs.declared.state.State.{State}
-use Rattle.packet_parts.specs.Senses.{earlyWarning}
-use Rattle.packet_parts.specs.States.{atPlace, withSense}
 use Rattle.packet_laws.proofs.Refusals.{begins-passes, begins-work}
 use Rattle.stream_parts.specs.Requests.{requestOf}
 use Rattle.stream.specs.Packet.{streamDevice}

@@ -11,8 +11,8 @@ use Rattle.opcodes.specs.declared.Command.the-variants.{Unknown, TestUnitReady,
 use Rattle.opcodes.specs.declared.Command.the-variants.{ModeSelect, ModeSense, LoadUnload, Locate, ReadPosition}
 use Rattle.transfer.proofs.ReadLaws.{read-ended}
 use Rattle.transfer.proofs.WriteLaws.{lay-ended}
+use Rattle.packet_state.specs.declared.state.State.{State}
 use Rattle.packet_parts.specs.declared.requests.Request.{Request}
-use Rattle.packet_parts.specs.declared.state.State.{State}
 use Rattle.packet_laws.specs.Words.{blocksOf}
 use Rattle.packet_laws.proofs.Refusals.{begins-room, begins-work}
 use Rattle.stream_parts.specs.Checks.{askedBy}

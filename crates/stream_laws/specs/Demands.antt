@@ -10,11 +10,11 @@ use Rattle.numbers.specs.Over.{part}
 use Rattle.image.specs.declared.elements.Kind.the-variants.{Filemark}
 use Rattle.image.specs.Header.{fieldsOf, keepsHeaderRules, withRecorded}
 use Rattle.opcodes.specs.declared.Command.the-variants.{Read, Write, WriteFilemarks}
-use Rattle.packet_parts.specs.declared.state.Outcome.{Outcome}
-use Rattle.packet_parts.specs.declared.state.State.{State}
+use Rattle.packet_state.specs.declared.state.Outcome.{Outcome}
+use Rattle.packet_state.specs.declared.state.State.{State}
+use Rattle.packet_state.specs.Senses.{unreadableBlock}
+use Rattle.packet_state.specs.States.{keepsRecordRules, atPlace, withSense}
 use Rattle.packet_parts.specs.Answers.{Left}
-use Rattle.packet_parts.specs.Senses.{unreadableBlock}
-use Rattle.packet_parts.specs.States.{keepsRecordRules, atPlace, withSense}
 use Rattle.packet_laws.specs.Promises.{CutPacket as CutPacketOf, RefusedKeeps as RefusedKeepsOf, NumberExactly as NumberExactlyOf}
 use Rattle.packet_laws.specs.Promises.{BeginsExactly as BeginsExactlyOf}
 use Rattle.packet_laws.specs.Words.{numberOf, blocksOf, bytesOf}

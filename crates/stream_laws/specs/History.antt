@@ -4,7 +4,7 @@ use Prim.Native.Nat.{ℕ, _≤_}
 use mathlib.Core.Bool.{true}
 use mathlib.Core.List.{List}
 use mathlib.Core.Path.{_≡_}
-use Rattle.packet_parts.specs.declared.state.State.{State}
+use Rattle.packet_state.specs.declared.state.State.{State}
 use Rattle.stream.specs.Packet.{packetStep}
 use Rattle.packet_laws.specs.Words.{blocksOf}
 use Rattle.stream_laws.specs.Words.{stores}

@@ -7,12 +7,12 @@ use lib.ListN.{replicate, set}
 use Rattle.numbers.specs.Choice.{_≡ᵇ_}
 use Rattle.numbers.specs.Counts.{countBytes}
 use Rattle.image.specs.Header.{fieldsOf}
-use Rattle.packet_parts.specs.declared.state.Attention.the-variants.{Nothing}
-use Rattle.packet_parts.specs.declared.state.State.{State}
+use Rattle.packet_state.specs.declared.state.Attention.the-variants.{Nothing}
+use Rattle.packet_state.specs.declared.state.State.{State}
 use Rattle.packet_parts.specs.Answers.{Left}
 use Rattle.stream.specs.Packet.{packetStep}
+use Rattle.packet_state.specs.States.{atPlace, withAttention, freshState}
 use Rattle.packet_parts.specs.Replies.{senseBytes}
-use Rattle.packet_parts.specs.States.{atPlace, withAttention, freshState}
 use Rattle.packet_laws.specs.Words.{blocksOf}
 use Rattle.stream_laws.specs.Words.{BeginsWork}
 

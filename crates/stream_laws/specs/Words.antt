@@ -16,11 +16,11 @@ use Rattle.image.specs.Sameness.{IsBlock, SameElement, Alike, Outside}
 use Rattle.opcodes.specs.declared.Command.{Command}
 use Rattle.opcodes.specs.declared.Command.the-variants.{Unknown, TestUnitReady, Rewind, RequestSense, Read, Write, WriteFilemarks, Space, Inquiry}
 use Rattle.opcodes.specs.declared.Command.the-variants.{ModeSelect, ModeSense, LoadUnload, Locate, ReadPosition}
-use Rattle.packet_parts.specs.declared.state.Sense.{Sense}
-use Rattle.packet_parts.specs.declared.state.State.{State}
+use Rattle.packet_state.specs.declared.state.Sense.{Sense}
+use Rattle.packet_state.specs.declared.state.State.{State}
+use Rattle.packet_state.specs.Senses.{noSense, filemarkDetected, unreadableBlock, endOfData, volumeOverflow, earlyWarning}
+use Rattle.packet_state.specs.States.{atPlace, withSense}
 use Rattle.packet_parts.specs.Answers.{Left, goodStatus, checkCondition}
-use Rattle.packet_parts.specs.Senses.{noSense, filemarkDetected, unreadableBlock, endOfData, volumeOverflow, earlyWarning}
-use Rattle.packet_parts.specs.States.{atPlace, withSense}
 use Rattle.packet_laws.specs.Words.{numberOf, statusOf, blocksOf, bytesOf, Begins}
 use Rattle.stream_parts.specs.Requests.{requestOf}
 use Rattle.stream.specs.Packet.{streamDevice, packetStep}

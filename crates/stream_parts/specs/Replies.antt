@@ -7,8 +7,8 @@ use Rattle.numbers.specs.Choice.{if_then_else_, _≡ᵇ_, _<ᵇ_}
 use Rattle.numbers.specs.Counts.{countBytes}
 use Rattle.numbers.specs.Flags.{weightOf}
 use Rattle.image.specs.declared.header.Header.{Header}
+use Rattle.packet_state.specs.declared.state.State.{State}
 use Rattle.packet_parts.specs.declared.requests.Request.{Request}
-use Rattle.packet_parts.specs.declared.state.State.{State}
 use Rattle.packet_parts.specs.Replies.{devicePage, shortList, fullList, inquiryBytes, modeHeader, devicePageBytes}
 use Rattle.packet_parts.specs.Requests.{pageCode}
 

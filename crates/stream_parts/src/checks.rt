@@ -17,8 +17,6 @@ use opcodes::Command;
 use packet_parts::replies::DEVICE_PAGE;
 use packet_parts::requests::Request;
 use packet_parts::requests::transfer_bytes;
-use packet_parts::state::State;
-use packet_parts::state::Verdict;
 use packet_parts::verdicts::Asked;
 use packet_parts::verdicts::always;
 use packet_parts::verdicts::no_command;
@@ -26,6 +24,8 @@ use packet_parts::verdicts::on_tape;
 use packet_parts::verdicts::settings;
 use packet_parts::verdicts::storing;
 use packet_parts::verdicts::verdict_by;
+use packet_state::state::State;
+use packet_state::state::Verdict;
 
 const SENSE_LENGTH: usize = 20;
 

@@ -12,7 +12,7 @@ use numbers::flags::weight_of;
 use packet_parts::replies::DEVICE_PAGE;
 use packet_parts::replies::device_page;
 use packet_parts::replies::mode_header;
-use packet_parts::state::State;
+use packet_state::state::State;
 
 // 15h: the two list lengths beside 0.
 pub const SHORT_LIST: usize = 12;

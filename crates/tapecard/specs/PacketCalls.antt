@@ -4,9 +4,9 @@ use Prim.Native.Nat.{ℕ}
 use mathlib.Core.List.{List}
 use mathlib.Core.Path.{_≡_}
 use Rattle.numbers.specs.Choice.{if_then_else_, _≡ᵇ_}
-use Rattle.packet_parts.specs.declared.state.State.{State}
+use Rattle.packet_state.specs.declared.state.State.{State}
+use Rattle.packet_state.specs.States.{freshState, changedState}
 use Rattle.packet_parts.specs.Answers.{Left}
-use Rattle.packet_parts.specs.States.{freshState, changedState}
 use Rattle.stream.specs.Packet.{packetStep}
 use Rattle.packet_record.specs.PacketRecord.{decodeState, encodeState, encodeAnswer}
 

@@ -1,8 +1,8 @@
 -- `senses::unit_attention` meets its contract.
 -- Assumes nothing.
 use borrow.Author.Needs.{needs}
-use Rattle.packet_parts.proofs.senses.unit_attention.Statement.{statement}
-use Rattle.packet_parts.proofs.senses.unit_attention.Tie as tie
+use Rattle.packet_state.proofs.senses.unit_attention.Statement.{statement}
+use Rattle.packet_state.proofs.senses.unit_attention.Tie as tie
 
 enum-told : tie.Need-enum-told
 enum-told c = search needs

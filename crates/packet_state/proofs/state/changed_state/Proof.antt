@@ -1,8 +1,8 @@
 -- `state::changed_state` meets its contract.
 -- Assumes nothing.
 use borrow.Author.Needs.{needs}
-use Rattle.packet_parts.proofs.state.changed_state.Statement.{statement}
-use Rattle.packet_parts.proofs.state.changed_state.Tie as tie
+use Rattle.packet_state.proofs.state.changed_state.Statement.{statement}
+use Rattle.packet_state.proofs.state.changed_state.Tie as tie
 
 stand-at-requires : tie.Need-stand-at-requires
 stand-at-requires c κs = search needs

@@ -1,9 +1,9 @@
 -- `rules::keeps_record_rules` meets its contract.
 -- Assumes nothing.
-use Rattle.packet_parts.specs.States.{keepsRecordRules}
+use Rattle.packet_state.specs.States.{keepsRecordRules}
 use borrow.Author.Needs.{needs}
-use Rattle.packet_parts.proofs.rules.keeps_record_rules.Statement.{statement}
-use Rattle.packet_parts.proofs.rules.keeps_record_rules.Tie as tie
+use Rattle.packet_state.proofs.rules.keeps_record_rules.Statement.{statement}
+use Rattle.packet_state.proofs.rules.keeps_record_rules.Tie as tie
 
 is-speed-requires : tie.Need-is-speed-requires
 is-speed-requires c κs = search needs

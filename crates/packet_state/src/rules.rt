@@ -1,7 +1,7 @@
 // 01, refusal 3: "packet record has P > U, a speed outside the five, or a sense key above 15".
 ghost use mathlib.Core.Path.{_≡_};
 ghost use Rattle.numbers.specs.Member.{isIn};
-ghost use Rattle.packet_parts.specs.States.{speeds, keepsRecordRules};
+ghost use Rattle.packet_state.specs.States.{speeds, keepsRecordRules};
 use crate::state::State;
 use numbers::tables::is_in;
 

@@ -1,6 +1,6 @@
 // 01, "The packet record and answers".
 ghost use mathlib.Core.Path.{_≡_};
-ghost use Rattle.packet_parts.specs.States.{atPlace, withLoaded, withAttention, withSpeed, withSense, freshState, changedState};
+ghost use Rattle.packet_state.specs.States.{atPlace, withLoaded, withAttention, withSpeed, withSense, freshState, changedState};
 use crate::senses::no_sense;
 
 pub enum Attention {

@@ -5,11 +5,11 @@ use mathlib.Core.Bool.{Bool, true, _&&_}
 use mathlib.Core.List.{List, [], _∷_}
 use Rattle.numbers.specs.Choice.{_≤ᵇ_}
 use Rattle.numbers.specs.Member.{isIn}
-use Rattle.packet_parts.specs.declared.state.Attention.{Attention}
-use Rattle.packet_parts.specs.declared.state.Attention.the-variants.{MediumChanged, Reset}
-use Rattle.packet_parts.specs.declared.state.Sense.{Sense}
-use Rattle.packet_parts.specs.declared.state.State.{State}
-use Rattle.packet_parts.specs.Senses.{noSense}
+use Rattle.packet_state.specs.declared.state.Attention.{Attention}
+use Rattle.packet_state.specs.declared.state.Attention.the-variants.{MediumChanged, Reset}
+use Rattle.packet_state.specs.declared.state.Sense.{Sense}
+use Rattle.packet_state.specs.declared.state.State.{State}
+use Rattle.packet_state.specs.Senses.{noSense}
 
 -- ---- the record with one part replaced
 

@@ -1,8 +1,8 @@
 // The sense of each ending: key, ASC, ASCQ, and what a stop adds.
 ghost use mathlib.Core.Path.{_≡_};
-ghost use Rattle.packet_parts.specs.Senses.{plain, stopped, noSense, unitAttention, invalidOpcode, invalidField, wrongListLength, notLoaded};
-ghost use Rattle.packet_parts.specs.Senses.{writeProtected, filemarkDetected, unreadableBlock, endOfData, volumeOverflow, earlyWarning};
-ghost use Rattle.packet_parts.specs.Senses.{beginningOfTape, beyondData, wrongList};
+ghost use Rattle.packet_state.specs.Senses.{plain, stopped, noSense, unitAttention, invalidOpcode, invalidField, wrongListLength, notLoaded};
+ghost use Rattle.packet_state.specs.Senses.{writeProtected, filemarkDetected, unreadableBlock, endOfData, volumeOverflow, earlyWarning};
+ghost use Rattle.packet_state.specs.Senses.{beginningOfTape, beyondData, wrongList};
 use crate::state::Attention;
 use crate::state::Sense;
 
