@@ -7,11 +7,11 @@ use native.Mathlib.Nat.{pow-le-pow-right, zero-lt-suc}
 use native.Mathlib.Omega.{arith}
 use borrow.Author.Tests.{ne-eqb, leb-true, leb-false, ltb-true, ltb-false, not-false}
 use Rattle.numbers.specs.Choice.{_≡ᵇ_, _<ᵇ_, _≤ᵇ_}
-use Rattle.numbers.proofs.Cases.{Has, ands, either, had, has, test}
+use Rattle.numbers.proofs.Cases.{ands, either, test}
 use Rattle.pulse_codes.specs.declared.arguments.Waiting.{Waiting}
 use Rattle.pulse_codes.specs.declared.arguments.Waiting.the-variants.{Nothing, For}
-use Rattle.pulse_codes.specs.Arguments.{highestNibble, highestRate, inRange, isWaiting, joined, needed, nibbleOf}
-use Rattle.pulse_codes.specs.Codes.{ignored, isReport, logicalForward, needsCartridge, needsReference, pause, physicalForward, physicalReverse}
+use Rattle.pulse_codes.specs.Arguments.{highestNibble, highestRate, inRange, joined, needed, nibbleOf}
+use Rattle.pulse_codes.specs.Codes.{ignored, logicalForward, needsCartridge, needsReference, pause, physicalForward, physicalReverse}
 use Rattle.pulse_codes.specs.Codes.{reportConfiguration, reportError, reportNextBit, reportRom, reportStatus, reportVendor, seekLoadPoint, seekTrack}
 use Rattle.pulse_codes.specs.Codes.{selectRate, skipExtendedReverse, skipReverse, softReset, stopTape, stopsMotion, supported}
 use Rattle.pulse_codes.specs.Errors.{admittedErrors, cartridgeMissing, illegalInReport, illegalTrack, newCartridgePending, noError, notReady}
@@ -25,7 +25,7 @@ use Rattle.pulse_parts.specs.Cartridges.{noCartridge}
 use Rattle.pulse_parts.specs.Faults.{errorHeld, noCommand}
 use Rattle.pulse_parts.specs.Heads.{atStart, isRun, isStill, standingAt}
 use Rattle.pulse_parts.specs.Marking.{newMarks, noMarks}
-use Rattle.pulse_parts.specs.Reports.{extraLength, isOpen, itemsLeft, noReport, owing, qic80, statusBits, configurationBits, tapeBits}
+use Rattle.pulse_parts.specs.Reports.{extraLength, itemsLeft, noReport, owing, qic80, statusBits, configurationBits, tapeBits}
 use Rattle.pulse.specs.declared.calls.Step.{Step}
 use Rattle.pulse.specs.declared.calls.Waited.{Waited}
 use Rattle.pulse.specs.declared.drive.Drive.{Drive}
@@ -37,11 +37,12 @@ use Rattle.pulse.specs.Events.{exchanged, inserted, removed, runFor, stepsTo}
 use Rattle.pulse.specs.Motions.{arrived, latched, loadStarted, runStarted, stopped, ticked}
 use Rattle.pulse.specs.Reports.{errorRead, itemGiven, opened, reportBroken, reportOf, statusAsked, stepOpenReport, stepReport}
 use Rattle.pulse.specs.Rules.{maxFormat, maxKind}
-use Rattle.pulse.specs.Train.{cleared, stepReset, stepNextBit, stepUnsupported, trainStep}
+use Rattle.pulse.specs.Train.{cleared, stepReset, stepUnsupported, trainStep}
 use Rattle.pulse_laws.proofs.Calls.{insert-by, remove-by, tick-by, train-by, wait-by}
 use Rattle.pulse_laws.proofs.Commands.{supported-low}
 use Rattle.pulse_laws.proofs.Motion.{ended}
 use Rattle.pulse_laws.proofs.Rules.{Calm, Cart, bare, full, to-rules}
+use Rattle.pulse_laws.proofs.Steps.{Taken, by-argument, by-command, by-next-bit, by-unsupported, by-opening, by-report, by-reset, train-taken}
 use Rattle.card_laws.specs.Promises.{FitsBytes, HeldAlone}
 use Rattle.card_laws.proofs.ByteLaws.{largest, in-largest, weight-most}
 
@@ -169,15 +170,15 @@ module _ (d : Drive) (f : Fit d) (code held low : ℕ) where
       either Fit (held + 1 <ᵇ needed code) _ _ (λ m. waiting-fit d f (For code (held + 1) (joined low held nibble)) (joined-low low held nibble l))
       (λ m. either Fit ((code ≡ᵇ skipReverse) || (code ≡ᵇ skipExtendedReverse)) _ _ (λ b. run _) (λ b. run _))
 
-  taken-fit : (value : ℕ) → inRange code value ≡ true → Fit (argumentTaken d code held low value)
+  value-fit : (value : ℕ) → inRange code value ≡ true → Fit (argumentTaken d code held low value)
   unfolding argumentTaken
-  taken-fit value e =
+  value-fit value e =
       either Fit (code ≡ᵇ seekTrack) _ _ (λ p. track-fit value)
       (λ p. either Fit (code ≡ᵇ selectRate) _ _ (λ q. unasked-fit d f) (λ q. nibble-fit value (leb-true value highestNibble (rw (p, q) at e))))
 
   read-fit : (n : ℕ) → Fit (argumentRead d code held low n)
   unfolding argumentRead nibbleOf
-  read-fit n = either (λ x. Fit (argumentOr d code held low x)) (inRange code (n - 2)) _ _ (taken-fit (n - 2)) (λ e. unasked-fit d f)
+  read-fit n = either (λ x. Fit (argumentOr d code held low x)) (inRange code (n - 2)) _ _ (value-fit (n - 2)) (λ e. unasked-fit d f)
 
 argument-fit : (w : Waiting) (d : Drive) (n : ℕ) → Fit d → Fit (argumentFor w d n)
 argument-fit Nothing d n f = f
@@ -296,19 +297,15 @@ unfolding stepUnsupported
 unsupported-fit d n f =
     either Fit (n <ᵇ reportVendor) _ _ (λ l. latch-fit d f undefinedCommand n (omega (arith, ltb-true n reportVendor l))) (λ l. f)
 
-train-has : (d : Drive) (n : ℕ) → Calm d → Fit d → Has Fit (trainStep d n)
-unfolding trainStep stepArgument
-train-has d n r f =
-    either (Has Fit) (n ≡ᵇ softReset) _ _ (λ e. has Fit _ (reset-fit d f))
-    (λ e. either (Has Fit) (isWaiting (d .waiting)) _ _ (λ e. has Fit _ (argument-fit (d .waiting) d n f))
-    (λ e. either (Has Fit) (isOpen (d .report)) _ _ (λ e. has Fit _ (in-report-fit d n f))
-    (λ e. either (Has Fit) (n ≡ᵇ reportNextBit) _ _ (λ e. has Fit (stepNextBit d) f)
-    (λ e. either (Has Fit) (not (supported n)) _ _ (λ s. has Fit _ (unsupported-fit d n f))
-    (λ s. either (Has Fit) (isReport n) _ _ (λ e. has Fit _ (open-report-fit d n r f))
-    (λ e. has Fit _ (command-fit n (omega (arith, supported-low n (not-false (supported n) s))) d f)))))))
-
-train-fit : (d : Drive) (n : ℕ) → Calm d → Fit d → Fit (trainStep d n)
-train-fit d n r f = had Fit (trainStep d n) (train-has d n r f)
+taken-fit : (d : Drive) (n : ℕ) {x : Drive} → Calm d → Fit d → Taken d n x → Fit x
+unfolding stepArgument
+taken-fit d n r f (by-reset e) = reset-fit d f
+taken-fit d n r f (by-argument e w) = argument-fit (d .waiting) d n f
+taken-fit d n r f (by-report e w o) = in-report-fit d n f
+taken-fit d n r f (by-next-bit h e) = f
+taken-fit d n r f (by-unsupported h) = unsupported-fit d n f
+taken-fit d n r f (by-opening h p) = open-report-fit d n r f
+taken-fit d n r f (by-command h c) = command-fit n (omega (arith, supported-low n (c .known))) d f
 
 -- ---- the calls; a drive that breaks the rules is left as it is
 
@@ -321,7 +318,9 @@ power-on-fits vendor rom v r = record { vendor = v; rom = r; command = omega ari
 
 module _ (d : Drive) (f : FitsBytes d) where
   pub train-fits : (n : ℕ) → FitsBytes (trainCall d n .drive)
-  train-fits n = train-by Good d (λ p. f) n (λ p z. f) (λ p z. of-fit (trainStep d n) (train-fit d n (to-rules d (not-false _ p) .0) (to-fit d f)))
+  train-fits n =
+      train-by Good d (λ p. f) n (λ p z. f)
+      (λ p z. of-fit (trainStep d n) (taken-fit d n (to-rules d (not-false _ p) .0) (to-fit d f) (train-taken d n)))
 
   pub tick-fits : FitsBytes (tickCall d .drive)
   tick-fits = tick-by Good d (λ p. f) (λ p. of-fit (ticked d) (tick-fit d (to-fit d f)))

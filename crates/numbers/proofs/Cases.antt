@@ -45,18 +45,6 @@ pub either : {A : Type 0} (P : A → Type 0) (b : Bool) (x y : A) → (b ≡ tru
 either P true x y f g = f refl
 either P false x y f g = g refl
 
--- a property under a closed name: a long chain of choices is argued about without the property's text, which is much cheaper to check
-unfoldable pub Has : {A : Type 0} → (A → Type 0) → A → Type 0
-Has P x = P x
-
-pub has : {A : Type 0} (P : A → Type 0) (x : A) → P x → Has P x
-unfolding Has
-has P x p = p
-
-pub had : {A : Type 0} (P : A → Type 0) (x : A) → Has P x → P x
-unfolding Has
-had P x p = p
-
 -- a promise that names the outcome allows no two
 pub settles : {A : Type 0} (outcome : A) → Settles (λ (x : A). x ≡ outcome)
 settles outcome x y p q = p ∙ sym q

@@ -24,13 +24,7 @@ use Rattle.pulse.specs.Motions.{latched, loadStarted, runStarted, stopped}
 use Rattle.pulse_laws.proofs.Idle.{Idle, idle-rules, latch-idle, load-waiting, run-idle}
 use Rattle.pulse_laws.proofs.Motion.{load-calm, stop-calm}
 use Rattle.pulse_laws.proofs.Rules.{Rules, Waits}
-
--- n is a supported code that steps 1 to 6 leave
-pub record Command (n : ℕ) : Type 0 where
-  pub known : supported n ≡ true
-  pub report : isReport n ≡ false
-  pub reset : (n ≡ᵇ softReset) ≡ false
-  pub next : (n ≡ᵇ reportNextBit) ≡ false
+use Rattle.pulse_laws.proofs.Steps.{Command}
 
 in-codes : (a b n : ℕ) → b < 36 → between a b n ≡ true → n < 36
 in-codes a b n l e = omega (arith, leb-true n b (and-r (a ≤ᵇ n) (n ≤ᵇ b) e))

@@ -5,14 +5,13 @@ use mathlib.Core.Bool.{Bool, true, false, cond, _||_}
 use mathlib.Core.Path.{_≡_, refl, ap}
 use borrow.Author.Tests.{eqb-true, not-false}
 use Rattle.numbers.specs.Choice.{_≡ᵇ_}
-use Rattle.numbers.proofs.Cases.{either, never, no-l}
+use Rattle.numbers.proofs.Cases.{either, never, no-l, or-r}
 use Rattle.pulse_codes.specs.declared.arguments.Waiting.{Waiting}
 use Rattle.pulse_codes.specs.declared.arguments.Waiting.the-variants.{For, Nothing}
-use Rattle.pulse_codes.specs.Arguments.{inRange, isWaiting, nibbleOf}
-use Rattle.pulse_codes.specs.Codes.{ignored, isReport, reportNextBit, softReset}
+use Rattle.pulse_codes.specs.Arguments.{inRange, nibbleOf}
+use Rattle.pulse_codes.specs.Codes.{ignored, isReport, reportNextBit}
 use Rattle.pulse_parts.specs.declared.head.Motion.{Motion}
 use Rattle.pulse_parts.specs.declared.head.Motion.the-variants.{Still, Run, Load}
-use Rattle.pulse_parts.specs.Reports.{isOpen}
 use Rattle.pulse.specs.declared.calls.Step.{Step}
 use Rattle.pulse.specs.declared.calls.Waited.{Waited}
 use Rattle.pulse.specs.declared.drive.Drive.{Drive}
@@ -21,8 +20,9 @@ use Rattle.pulse.specs.Commands.{checked, obeyed, stepCommand}
 use Rattle.pulse.specs.Events.{inserted, removed, runFor, stepsTo}
 use Rattle.pulse.specs.Motions.{arrived, latched, loadStarted, motionEnded, runStarted, ticked}
 use Rattle.pulse.specs.Reports.{stepReport}
-use Rattle.pulse.specs.Train.{stepReset, stepUnsupported, trainStep}
+use Rattle.pulse.specs.Train.{stepReset, stepUnsupported}
 use Rattle.pulse_laws.proofs.Calls.{insert-by, remove-by, tick-by, train-by, wait-by}
+use Rattle.pulse_laws.proofs.Steps.{Heard, Taken, by-argument, by-command, by-next-bit, by-unsupported, by-opening, by-report, by-reset, train-taken}
 use Rattle.pulse_laws.specs.Demands.{LevelKept}
 use Rattle.pulse_laws.specs.Runs.{namesLevel}
 
@@ -61,17 +61,19 @@ unfolding stepReport
 in-report-level d n i =
     either (Same d) (n ≡ᵇ reportNextBit) _ _ (λ e. never i (ap ignored (eqb-true n reportNextBit e))) (λ e. rw i)
 
-train-level : (d : Drive) (n : ℕ) → namesLevel d n ≡ false → Same d (trainStep d n)
-unfolding trainStep stepReset stepArgument stepUnsupported stepCommand checked obeyed latched loadStarted runStarted
-train-level d n q =
-    either (Same d) (n ≡ᵇ softReset) _ _ (λ e. simp (level-of, alike))
-    (λ e. either (Same d) (isWaiting (d .waiting)) _ _ (λ w. argument-level (d .waiting) d n)
-    (λ w. either (Same d) (isOpen (d .report)) _ _ (λ o. in-report-level d n (not-false _ (rw (e, w, o) at q)))
-    (λ o.
-    let c : ((n ≡ᵇ reportNextBit) || isReport n) ≡ false = rw (e, w, o) at q in
-    let f = no-l (n ≡ᵇ reportNextBit) (isReport n) c in
-    let p : isReport n ≡ false = rw f at c in
-    simp (f, p, level-of, alike))))
+-- a train that names no level is neither a next bit nor a report where it is heard
+unnamed : (d : Drive) (n : ℕ) → namesLevel d n ≡ false → Heard d n → ((n ≡ᵇ reportNextBit) || isReport n) ≡ false
+unnamed d n q h = rw (h .reset, h .waiting, h .report) at q
+
+taken-level : (d : Drive) (n : ℕ) {x : Drive} → namesLevel d n ≡ false → Taken d n x → Same d x
+unfolding stepReset stepArgument stepUnsupported stepCommand checked obeyed latched loadStarted runStarted
+taken-level d n q (by-reset e) = simp (level-of, alike)
+taken-level d n q (by-argument e w) = argument-level (d .waiting) d n
+taken-level d n q (by-report e w o) = in-report-level d n (not-false _ (rw (e, w, o) at q))
+taken-level d n q (by-next-bit h f) = never f (no-l (n ≡ᵇ reportNextBit) (isReport n) (unnamed d n q h))
+taken-level d n q (by-unsupported h) = simp (level-of, alike)
+taken-level d n q (by-opening h p) = never (or-r (n ≡ᵇ reportNextBit) (isReport n) p) (unnamed d n q h)
+taken-level d n q (by-command h c) = simp (level-of, alike)
 
 -- ---- the calls
 abbrev Kept : Drive → Step → Type 0
@@ -81,7 +83,7 @@ pub level-kept : LevelKept
 unfolding runFor inserted removed latched loadStarted
 level-kept =
     record {
-      train = λ d n q. train-by (Kept d) d (λ p. refl) n (λ p z. refl) (λ p z. train-level d n q);
+      train = λ d n q. train-by (Kept d) d (λ p. refl) n (λ p z. refl) (λ p z. taken-level d n q (train-taken d n));
       tick = λ d. tick-by (Kept d) d (λ p. refl) (λ p. run-level 1 d);
       insert = λ d cart place.
           insert-by (Kept d) d (λ p. refl) cart place (λ p i. refl) (λ p i o. refl) (λ p i o. simp (level-of, alike));

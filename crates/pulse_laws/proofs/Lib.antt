@@ -1,4 +1,5 @@
 pub mod Rules
+pub mod Steps
 pub mod Motion
 pub mod Idle
 pub mod Arguments

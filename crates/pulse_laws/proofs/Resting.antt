@@ -1,7 +1,7 @@
 -- While an error or the new mark stands, no train but 1 starts the tape: the head stays as it was, or a run is stopped where it stands.
 -- Assumes nothing.
 use Prim.Native.Nat.{ℕ}
-use mathlib.Core.Bool.{true, false, not, _&&_, _||_}
+use mathlib.Core.Bool.{true, false, _&&_, _||_}
 use mathlib.Core.Path.{_≡_, refl, ap}
 use borrow.Author.Tests.{ne-eqb, not-true}
 use Rattle.numbers.specs.Choice.{_<ᵇ_, _≡ᵇ_}
@@ -9,14 +9,14 @@ use Rattle.numbers.proofs.Cases.{and-l, and-r, ands, either, never, or-by}
 use Rattle.pulse_codes.specs.declared.arguments.Waiting.{Waiting}
 use Rattle.pulse_codes.specs.declared.arguments.Waiting.the-variants.{For, Nothing}
 use Rattle.pulse_codes.specs.Arguments.{isWaiting, needed}
-use Rattle.pulse_codes.specs.Codes.{ignored, isReport, reportError, reportNextBit, reportStatus, reportVendor, softReset, stopsMotion, supported}
+use Rattle.pulse_codes.specs.Codes.{ignored, reportError, reportNextBit, reportStatus, reportVendor, softReset, stopsMotion}
 use Rattle.pulse_codes.specs.Errors.{illegalInReport, newCartridgePending, notReady, undefinedCommand}
 use Rattle.pulse_parts.specs.declared.head.Head.{Head}
 use Rattle.pulse_parts.specs.declared.head.Motion.{Motion}
 use Rattle.pulse_parts.specs.declared.head.Motion.the-variants.{Load, Run, Still}
 use Rattle.pulse_parts.specs.Faults.{errorHeld}
 use Rattle.pulse_parts.specs.Heads.{heldAt, isRun, isStill}
-use Rattle.pulse_parts.specs.Reports.{isOpen, noReport}
+use Rattle.pulse_parts.specs.Reports.{noReport}
 use Rattle.pulse.specs.declared.calls.Step.{Step}
 use Rattle.pulse.specs.declared.drive.Drive.{Drive}
 use Rattle.pulse.specs.Commands.{checked, stepCommand}
@@ -24,9 +24,10 @@ use Rattle.pulse.specs.Drives.{isReady, withLevel, withReport}
 use Rattle.pulse.specs.Motions.{latched, stopped}
 use Rattle.pulse.specs.Reports.{errorRead, itemGiven, statusAsked, stepOpenReport, stepReport}
 use Rattle.pulse.specs.Rules.{isFree}
-use Rattle.pulse.specs.Train.{stepUnsupported, trainStep}
+use Rattle.pulse.specs.Train.{stepUnsupported}
 use Rattle.pulse_laws.proofs.Calls.{train-by}
 use Rattle.pulse_laws.proofs.Rules.{Rules, Waits, to-rules}
+use Rattle.pulse_laws.proofs.Steps.{Taken, by-argument, by-command, by-next-bit, by-unsupported, by-opening, by-report, by-reset, train-taken}
 use Rattle.pulse_laws.specs.Demands.{OnlyResetStarts}
 use Rattle.pulse_laws.specs.Runs.{NotStarted, as-it-was, run-stopped}
 
@@ -108,18 +109,20 @@ module _ (d : Drive) (r : Rules d) (s : (errorHeld (d .fault) || d .marks .fresh
       (check-kept (stopped d) n s))
       (λ f. latch-kept d notReady n))
 
-  train-kept : (n : ℕ) → (n ≡ᵇ softReset) ≡ false → Kept (d .head) (trainStep d n)
-  unfolding trainStep stepUnsupported
-  train-kept n k =
-      rw k
-      (either (Kept (d .head)) (isWaiting (d .waiting)) _ _ (λ e. absurd (no-argument e))
-      (λ e. either (Kept (d .head)) (isOpen (d .report)) _ _ (λ o. in-report-kept d n)
-      (λ o. either (Kept (d .head)) (n ≡ᵇ reportNextBit) _ _ (λ f. as-it-was refl)
-      (λ f. either (Kept (d .head)) (not (supported n)) _ _
-      (λ p. either (Kept (d .head)) (n <ᵇ reportVendor) _ _ (λ q. latch-kept d undefinedCommand n) (λ q. as-it-was refl))
-      (λ p. either (Kept (d .head)) (isReport n) _ _ (λ q. as-it-was (open-stays d n)) (λ q. command-kept n))))))
+  unsupported-kept : (n : ℕ) → Kept (d .head) (stepUnsupported d n)
+  unfolding stepUnsupported
+  unsupported-kept n = either (Kept (d .head)) (n <ᵇ reportVendor) _ _ (λ q. latch-kept d undefinedCommand n) (λ q. as-it-was refl)
+
+  taken-kept : (n : ℕ) {x : Drive} → (n ≡ᵇ softReset) ≡ false → Taken d n x → Kept (d .head) x
+  taken-kept n k (by-reset e) = never e k
+  taken-kept n k (by-argument e w) = absurd (no-argument w)
+  taken-kept n k (by-report e w o) = in-report-kept d n
+  taken-kept n k (by-next-bit h f) = as-it-was refl
+  taken-kept n k (by-unsupported h) = unsupported-kept n
+  taken-kept n k (by-opening h p) = as-it-was (open-stays d n)
+  taken-kept n k (by-command h c) = command-kept n
 
 pub only-reset-starts : OnlyResetStarts
 only-reset-starts d n e s k =
     train-by (λ (x : Step). Kept (d .head) (x .drive)) d (λ p. as-it-was refl) n (λ p z. as-it-was refl)
-    (λ p z. train-kept d (to-rules d e) s n (ne-eqb n softReset k))
+    (λ p z. taken-kept d (to-rules d e) s n (ne-eqb n softReset k) (train-taken d n))

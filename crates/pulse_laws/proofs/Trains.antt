@@ -3,34 +3,34 @@
 use Prim.Native.Nat.{ℕ, zero, suc}
 use mathlib.Core.Bool.{Bool, true, false, not, _&&_, or-true}
 use mathlib.Core.Path.{_≡_, refl, sym, _∙_, ap}
-use borrow.Author.Tests.{leb-true, not-false}
+use borrow.Author.Tests.{leb-true}
 use Rattle.numbers.specs.Choice.{_<ᵇ_, _≡ᵇ_, _≤ᵇ_}
 use Rattle.numbers.specs.Member.{isIn}
-use Rattle.numbers.proofs.Cases.{Has, ands, either, had, has, never}
+use Rattle.numbers.proofs.Cases.{ands, either, never}
 use Rattle.pulse_codes.specs.declared.arguments.Waiting.{Waiting}
 use Rattle.pulse_codes.specs.declared.arguments.Waiting.the-variants.{For, Nothing}
 use Rattle.pulse_codes.specs.Arguments.{isWaiting}
-use Rattle.pulse_codes.specs.Codes.{isReport, reportNextBit, reportVendor, softReset, supported}
+use Rattle.pulse_codes.specs.Codes.{reportVendor}
 use Rattle.pulse_codes.specs.Errors.{cartridgeMissing, undefinedCommand}
 use Rattle.pulse_parts.specs.declared.cartridge.Cartridge.{Cartridge}
 use Rattle.pulse_parts.specs.declared.head.Motion.{Motion}
 use Rattle.pulse_parts.specs.Faults.{errorHeld, noCommand}
 use Rattle.pulse_parts.specs.Heads.{isRun, standingAt, toward}
 use Rattle.pulse_parts.specs.Marking.{newMarks}
-use Rattle.pulse_parts.specs.Reports.{isOpen}
 use Rattle.pulse.specs.declared.drive.Drive.{Drive}
 use Rattle.pulse.specs.Drives.{isReady, powerOn, withHead, withoutArguments}
 use Rattle.pulse.specs.Events.{emptied, exchanged, inserted, removed, runFor}
 use Rattle.pulse.specs.Motions.{arrived, latched, loadStarted, stopped, ticked}
 use Rattle.pulse.specs.Reports.{stepOpenReport, stepReport}
 use Rattle.pulse.specs.Rules.{inRanges}
-use Rattle.pulse.specs.Train.{cleared, stepReset, stepNextBit, stepUnsupported, trainStep}
+use Rattle.pulse.specs.Train.{cleared, stepReset, stepUnsupported, trainStep}
 use Rattle.pulse_laws.proofs.Arguments.{argument-rules}
 use Rattle.pulse_laws.proofs.Commands.{command-rules}
 use Rattle.pulse_laws.proofs.Idle.{Awaits, Idle, idle-rules, latch-idle, load-waiting}
 use Rattle.pulse_laws.proofs.Motion.{ended, latch-calm, load-calm, nearer, stop-calm, tick-calm}
 use Rattle.pulse_laws.proofs.Reports.{in-report-idle, open-report-idle}
 use Rattle.pulse_laws.proofs.Rules.{Calm, Cart, Moves, Rules, Within, bare, full, loads, rests, runs}
+use Rattle.pulse_laws.proofs.Steps.{Taken, by-argument, by-command, by-next-bit, by-unsupported, by-opening, by-report, by-reset, train-taken}
 
 pub power-rules : (vendor rom : ℕ) → Rules (powerOn vendor rom)
 unfolding powerOn isIn
@@ -140,8 +140,8 @@ reset-rules d r =
     y = cleared-idle (stopped d) (stop-calm d (r .0)) refl
 
 -- where no argument is waited for
-idle-by : {G : Type 0} (d : Drive) → Rules d → isWaiting (d .waiting) ≡ false → (Idle d → G) → G
-idle-by d r e k = k (r .0, nothing (d .waiting) e)
+idle : (d : Drive) → Rules d → isWaiting (d .waiting) ≡ false → Idle d
+idle d r e = (r .0, nothing (d .waiting) e)
   where
     nothing : (w : Waiting) → isWaiting w ≡ false → w ≡ Nothing
     nothing Nothing e = refl
@@ -152,17 +152,14 @@ unfolding stepUnsupported isIn
 unsupported-rules d n r i =
     either Rules (n <ᵇ reportVendor) _ _ (λ l. idle-rules (latched d undefinedCommand n) (latch-idle d undefinedCommand n refl i)) (λ l. r)
 
-train-has : (d : Drive) (n : ℕ) → Rules d → Has Rules (trainStep d n)
-unfolding trainStep
-train-has d n r =
-    either (Has Rules) (n ≡ᵇ softReset) _ _ (λ e. has Rules _ (reset-rules d r))
-    (λ e. either (Has Rules) (isWaiting (d .waiting)) _ _ (λ w. has Rules _ (argument-rules d n r))
-    (λ w. idle-by d r w
-    (λ i. either (Has Rules) (isOpen (d .report)) _ _ (λ o. has Rules _ (idle-rules (stepReport d n) (in-report-idle d n o i)))
-    (λ o. either (Has Rules) (n ≡ᵇ reportNextBit) _ _ (λ f. has Rules (stepNextBit d) r)
-    (λ f. either (Has Rules) (not (supported n)) _ _ (λ s. has Rules _ (unsupported-rules d n r i))
-    (λ s. either (Has Rules) (isReport n) _ _ (λ p. has Rules _ (idle-rules (stepOpenReport d n) (open-report-idle d n i)))
-    (λ p. has Rules _ (command-rules d n i (record { known = not-false (supported n) s; report = p; reset = e; next = f }) o))))))))
+taken-rules : (d : Drive) (n : ℕ) {x : Drive} → Rules d → Taken d n x → Rules x
+taken-rules d n r (by-reset e) = reset-rules d r
+taken-rules d n r (by-argument e w) = argument-rules d n r
+taken-rules d n r (by-report e w o) = idle-rules (stepReport d n) (in-report-idle d n o (idle d r w))
+taken-rules d n r (by-next-bit h f) = r
+taken-rules d n r (by-unsupported h) = unsupported-rules d n r (idle d r (h .waiting))
+taken-rules d n r (by-opening h p) = idle-rules (stepOpenReport d n) (open-report-idle d n (idle d r (h .waiting)))
+taken-rules d n r (by-command h c) = command-rules d n (idle d r (h .waiting)) c (h .report)
 
 pub train-rules : (d : Drive) (n : ℕ) → Rules d → Rules (trainStep d n)
-train-rules d n r = had Rules (trainStep d n) (train-has d n r)
+train-rules d n r = taken-rules d n r (train-taken d n)
