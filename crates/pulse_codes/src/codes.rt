@@ -64,7 +64,7 @@ pub fn is_report(n: u16) -> bool
     ((REPORT_STATUS <= n) & (n <= REPORT_ROM)) | (n == REPORT_VENDOR) | (n == REPORT_TAPE)
 }
 
-pub fn is_skip(n: u16) -> bool
+pub(crate) fn is_skip(n: u16) -> bool
     ensures { λ r. ⌜ r ≡ isSkip n ⌝ }
 {
     (n == SKIP_REVERSE)
