@@ -37,8 +37,9 @@ use Rattle.packet_parts.specs.Requests.{packetLength}
 use Rattle.packet_parts.specs.Shell.{carriedOut, decided, answersTo}
 use Rattle.packet_parts.specs.Verdicts.{foundFirst, verdictBy}
 use Rattle.stream.specs.Packet.{streamDevice, packetStep}
-use Rattle.stream.specs.Work.{endingOf, loadWork, locateWork, markWork, readEnds, readWork, selectWork, spaceWork, workOf}
+use Rattle.stream.specs.Work.{endingOf, locateWork, markWork, readEnds, readWork, selectWork, spaceWork, workOf}
 use Rattle.stream.specs.Work.{writeEnding, writeEnds, writeWork}
+use Rattle.packet_work.specs.Settings.{loadWork, speedWork}
 use Rattle.packet_laws.specs.Words.{numberOf}
 use Rattle.stream_laws.proofs.Leaving.{outcomeOf, accepted-leaves}
 use Rattle.packet_record.specs.PacketRecord.{attentionByte, decodeState, encodeAnswer, encodeState}
@@ -109,7 +110,7 @@ fits-of true x y = refl
 fits-of false x y = refl
 
 work-fits : (c : Command) (s : List ℕ) (h : Header) (st : State) (q : Request) (buf : List ℕ) → fits (outcomeOf (workOf c s h st q buf)) ≡ true
-unfolding workOf readWork readEnds writeWork writeEnds markWork spaceWork replyEnds selectWork loadWork locateWork
+unfolding workOf readWork readEnds writeWork writeEnds markWork spaceWork replyEnds selectWork speedWork loadWork locateWork
 work-fits Unknown s h st q buf = ends-fits _ _ _ _
 work-fits TestUnitReady s h st q buf = ends-fits _ _ _ _
 work-fits Rewind s h st q buf = ends-fits _ _ _ _

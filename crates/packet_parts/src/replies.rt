@@ -15,9 +15,24 @@ use packet_state::state::Outcome;
 use packet_state::state::Sense;
 use packet_state::state::State;
 
+pub const SENSE_LENGTH: usize = 20;
+
+pub const INQUIRY_LENGTH: usize = 36;
+
+// 1Ah: the pages that both devices have.
+pub const HEADER_ALONE: u8 = 0x00;
+
 pub const DEVICE_PAGE: u8 = 0x2A;
 
 pub const DEVICE_PAGE_LENGTH: u8 = 0x12;
+
+// The header alone, and with the device page.
+pub const SHORT_LIST: usize = 12;
+
+pub const FULL_LIST: usize = 32;
+
+// The length after itself, in the first byte of a mode header alone.
+pub const AFTER_SHORT: u8 = 11;
 
 // 01: "03h: 20 bytes"
 pub fn sense_bytes(x: Sense) -> [u8; 20]

@@ -24,9 +24,11 @@ use Rattle.stream_parts.specs.Checks.{askedBy}
 use Rattle.packet_state.specs.States.{atPlace}
 use Rattle.packet_parts.specs.Replies.{senseBytes, modeHeader, replyEnds, repliedInto}
 use Rattle.packet_parts.specs.Requests.{loadBit}
+use Rattle.packet_work.specs.Moving.{moves}
+use Rattle.packet_work.specs.Settings.{loadWork}
 use Rattle.stream_parts.specs.Replies.{streamInquiry, hasPage, modePage, modeBytes, positionBytes}
 use Rattle.stream_parts.specs.Requests.{spaceCode}
-use Rattle.stream.specs.Work.{endingOf, moves, readEnds, readWork, writeEnding, writeEnds, writeWork, markWork, spaceWork, selectWork, loadWork}
+use Rattle.stream.specs.Work.{endingOf, readEnds, readWork, writeEnding, writeEnds, writeWork, markWork, spaceWork, selectWork}
 use Rattle.stream.specs.Work.{locateWork, workOf}
 
 -- ---- READ, WRITE, WRITE FILEMARK

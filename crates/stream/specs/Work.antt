@@ -1,13 +1,10 @@
 -- The work of each command, once nothing before it ended the packet.
 -- Assumes nothing.
-use Prim.Native.Nat.{ℕ, _+_, _*_, _-_, _^_, _<_, _≤_}
-use mathlib.Core.Bool.{Bool, not, _&&_}
+use Prim.Native.Nat.{ℕ, _-_, _^_, _<_, _≤_}
+use mathlib.Core.Bool.{not, _&&_}
 use mathlib.Core.List.{List}
 use mathlib.Core.Path.{_≡_}
-use lib.ListN.{getD}
 use Rattle.numbers.specs.Choice.{if_then_else_, _≡ᵇ_, _<ᵇ_, _≤ᵇ_}
-use Rattle.numbers.specs.Counts.{countAt}
-use Rattle.numbers.specs.Member.{isIn}
 use Rattle.image.specs.declared.header.Header.{Header}
 use Rattle.image.specs.declared.header.Judged.the-variants.{Good as GoodHeader}
 use Rattle.image.specs.Elements.{recordTo}
@@ -27,12 +24,15 @@ use Rattle.packet_state.specs.declared.state.Outcome.{Outcome}
 use Rattle.packet_state.specs.declared.state.State.{State}
 use Rattle.packet_parts.specs.declared.requests.Request.{Request}
 use Rattle.packet_parts.specs.Answers.{Left, done, ends}
-use Rattle.packet_parts.specs.Replies.{senseBytes, devicePage, devicePageLength, shortList, fullList, replyEnds, repliedInto}
+use Rattle.packet_parts.specs.Replies.{senseBytes, fullList}
 use Rattle.packet_parts.specs.Requests.{loadBit}
+use Rattle.packet_work.specs.Moving.{moves}
+use Rattle.packet_work.specs.Replies.{replyWork}
+use Rattle.packet_work.specs.Settings.{speedWork, loadWork}
 use Rattle.stream_parts.specs.Replies.{streamInquiry, modeBytes, positionBytes, positionLength, pastWarning}
 use Rattle.stream_parts.specs.Requests.{spaceCode, overBlocks, toEndOfData, isBack, magnitude}
-use Rattle.packet_state.specs.Senses.{filemarkDetected, unreadableBlock, endOfData, volumeOverflow, earlyWarning, beginningOfTape, beyondData, wrongList}
-use Rattle.packet_state.specs.States.{speeds, highestKey, atPlace, withLoaded, withSpeed}
+use Rattle.packet_state.specs.Senses.{filemarkDetected, unreadableBlock, endOfData, volumeOverflow, earlyWarning, beginningOfTape, beyondData}
+use Rattle.packet_state.specs.States.{highestKey, atPlace}
 
 -- what a packet has passed when it comes to its work: the image has the header h, the record keeps rule 3, and a count has three bytes
 pub record Passed (s : List ℕ) (h : Header) (st : State) (q : Request) : Type 0 where
@@ -51,10 +51,6 @@ endingOf AtFilemark left = Check (filemarkDetected left)
 endingOf AtBadBlock left = Check (unreadableBlock left)
 endingOf AtEnd left = Check (endOfData left)
 endingOf AtBeginning left = Check (beginningOfTape left)
-
--- blocks and bytes of those asked for that a run moved
-abbrev pub moves : State → ℕ → ℕ → Moved → Ending → Outcome
-moves st asked size moved ending = ends (atPlace st (moved .place)) ending (asked - moved .left) ((asked - moved .left) * size)
 
 unfoldable pub readEnds : State → ℕ → ℕ → List ℕ → Reading → Left State
 readEnds st asked size s r = done (moves st asked size (r .moved) (endingOf (r .moved .stop) (r .moved .left))) s (r .buf)
@@ -105,33 +101,15 @@ spaceWork s h st code count =
     if code ≡ᵇ toEndOfData then ends (atPlace st (h .recorded)) Good 0 0 else
     spaceEnds st (spaceRun s h (st .position) code count)
 
--- ---- 03h, 12h, 1Ah, 34h: the first of some bytes
-
-abbrev pub replyWork : List ℕ → ℕ → State → List ℕ → List ℕ → Left State
-replyWork bytes asked st s buf = done (replyEnds bytes asked st) s (repliedInto bytes asked buf)
-
 -- ---- 15h MODE SELECT
 
--- "Length 32: page bytes 2Ah 12h and speed 0, 62, 125, 250 or 500"; the page stands after the header, its speed in its bytes 14-15
-abbrev pub listSpeed : List ℕ → ℕ
-listSpeed list = countAt list (shortList + 14) 2
-
-unfoldable pub goodList : List ℕ → Bool
-goodList list =
-    (getD list shortList 0 ≡ᵇ devicePage) && (getD list (shortList + 1) 0 ≡ᵇ devicePageLength) && isIn (listSpeed list) speeds
-
--- "Length 32: page bytes 2Ah 12h and speed .., else 5/26/00; other bytes ignored."
+-- "list length (byte 4, a field) 0, 12 or 32 .. Length 32: page bytes 2Ah 12h and speed .., else 5/26/00; other bytes ignored."
 unfoldable pub selectWork : State → ℕ → List ℕ → Outcome
 selectWork st asked list =
     if not (asked ≡ᵇ fullList) then ends st Good 0 asked else
-    if not (goodList list) then ends st (Check wrongList) 0 0 else
-    ends (withSpeed st (listSpeed list)) Good 0 asked
+    speedWork st list
 
--- ---- 1Bh LOAD/UNLOAD, 2Bh LOCATE
-
--- "P = 0; loaded as the bit says."
-unfoldable pub loadWork : State → Bool → Outcome
-loadWork st load = ends (withLoaded (atPlace st 0) load) Good 0 0
+-- ---- 2Bh LOCATE
 
 -- "Above U: P = U, 8/00/05, not valid. Else P = target."
 unfoldable pub locateWork : Header → State → ℕ → Outcome

@@ -6,25 +6,21 @@ ghost use Rattle.image.specs.Header.{headerOf};
 ghost use Rattle.image.specs.declared.header.Judged.the-variants.{Good};
 ghost use Rattle.packet_parts.specs.Answers.{done};
 ghost use Rattle.stream_parts.specs.Checks.{askedBy};
-ghost use Rattle.packet_parts.specs.Replies.{senseBytes, replyEnds, repliedInto};
-ghost use Rattle.stream_parts.specs.Replies.{streamInquiry, modeLength, modeBytes, positionBytes};
-ghost use Rattle.stream.specs.Work.{Passed, endingOf, moves, readWork, writeEnding, writeWork, markWork, spaceRun, spaceWork, goodList, selectWork};
-ghost use Rattle.stream.specs.Work.{loadWork, locateWork, workOf};
+ghost use Rattle.packet_parts.specs.Replies.{replyEnds, repliedInto};
+ghost use Rattle.stream_parts.specs.Replies.{modeLength, modeBytes, positionBytes};
+ghost use Rattle.stream.specs.Work.{Passed, endingOf, readWork, writeEnding, writeWork, markWork, spaceRun, spaceWork, selectWork};
+ghost use Rattle.stream.specs.Work.{locateWork, workOf};
 use image::elements::record_to;
 use image::header::Header;
-use numbers::counts::count2;
 use numbers::flags::is_set;
 use opcodes::Command;
 use packet_parts::answers::end;
+use packet_parts::replies::AFTER_SHORT;
 use packet_parts::replies::DEVICE_PAGE;
-use packet_parts::replies::DEVICE_PAGE_LENGTH;
-use packet_parts::replies::inquiry_bytes;
+use packet_parts::replies::FULL_LIST;
 use packet_parts::replies::mode_header;
 use packet_parts::replies::reply;
-use packet_parts::replies::sense_bytes;
 use packet_parts::requests::Request;
-use packet_parts::requests::transfer_bytes;
-use packet_state::rules::is_speed;
 use packet_state::senses::beginning_of_tape;
 use packet_state::senses::beyond_data;
 use packet_state::senses::early_warning;
@@ -32,18 +28,18 @@ use packet_state::senses::end_of_data;
 use packet_state::senses::filemark_detected;
 use packet_state::senses::unreadable_block;
 use packet_state::senses::volume_overflow;
-use packet_state::senses::wrong_list;
 use packet_state::state::Ending;
 use packet_state::state::Outcome;
 use packet_state::state::State;
 use packet_state::state::stand_at;
-use packet_state::state::with_loaded;
-use packet_state::state::with_speed;
-use stream_parts::replies::AFTER_SHORT;
-use stream_parts::replies::FULL_LIST;
+use packet_work::moving::end_moved;
+use packet_work::replies::device_mode;
+use packet_work::replies::inquiry;
+use packet_work::replies::request_sense;
+use packet_work::settings::load_unload;
+use packet_work::settings::select_speed;
 use stream_parts::replies::POSITION_LENGTH;
-use stream_parts::replies::SHORT_LIST;
-use stream_parts::replies::mode_whole;
+use stream_parts::replies::UNIT_BLOCKS;
 use stream_parts::replies::position_bytes;
 use stream_parts::requests::OVER_BLOCKS;
 use stream_parts::requests::TO_END_OF_DATA;
@@ -69,22 +65,6 @@ fn ending_of(stop: Stop, left: usize) -> Ending
         Stop::AtEnd => Ending::Check(end_of_data(left)),
         Stop::AtBeginning => Ending::Check(beginning_of_tape(left)),
     }
-}
-
-// Blocks and bytes of those asked for that a run moved.
-fn end_moved(state: State, asked: usize, size: usize, moved: Moved, ending: Ending) -> Outcome
-    requires { ⌜ asked < 2 ^ 24 ⌝ }
-    requires { ⌜ size ≤ 1024 ⌝ }
-    requires { ⌜ moved .left ≤ asked ⌝ }
-    ensures { λ r. ⌜ r ≡ moves state asked size moved ending ⌝ }
-{
-    let blocks = asked - moved.left;
-    end(
-        stand_at(state, moved.place),
-        ending,
-        blocks,
-        transfer_bytes(blocks, size),
-    )
 }
 
 fn read(image: &[u8], h: Header, state: State, asked: usize, buf: &mut [u8]) -> Outcome
@@ -187,27 +167,8 @@ fn space(image: &[u8], h: Header, state: State, code: u8, count: usize) -> Outco
     end(stand_at(state, moved.place), ending, 0, 0)
 }
 
-fn request_sense(state: State, asked: u8, buf: &mut [u8]) -> Outcome
-    requires { ⌜ (state .sense .key ≤ 15) × (min asked 20 ≤ length (now buf)) ⌝ }
-    ensures { λ r. ⌜ r ≡ replyEnds (senseBytes (state .sense)) asked state ⌝ }
-    ensures { λ _. ⌜ now (buf .exit) ≡ repliedInto (senseBytes (state .sense)) asked (now (buf .entry)) ⌝ }
-{
-    let sense = state.sense;
-    let bytes = sense_bytes(sense);
-    reply(&bytes, asked as usize, state, buf)
-}
-
 // 12h: the device type of a tape.
 const SEQUENTIAL: u8 = 0x01;
-
-fn inquiry(state: State, asked: u8, buf: &mut [u8]) -> Outcome
-    requires { ⌜ min asked 36 ≤ length (now buf) ⌝ }
-    ensures { λ r. ⌜ r ≡ replyEnds streamInquiry asked state ⌝ }
-    ensures { λ _. ⌜ now (buf .exit) ≡ repliedInto streamInquiry asked (now (buf .entry)) ⌝ }
-{
-    let bytes = inquiry_bytes(SEQUENTIAL);
-    reply(&bytes, asked as usize, state, buf)
-}
 
 fn mode_sense(h: Header, state: State, q: Request, buf: &mut [u8]) -> Outcome
     requires { ⌜ min (q .length) (modeLength q) ≤ length (now buf) ⌝ }
@@ -217,7 +178,7 @@ fn mode_sense(h: Header, state: State, q: Request, buf: &mut [u8]) -> Outcome
     let asked = q.length as usize;
     let whole = q.page % 64 == DEVICE_PAGE;
     if whole {
-        let bytes = mode_whole(h, state);
+        let bytes = device_mode(h, state.speed, 0, UNIT_BLOCKS);
         return reply(&bytes, asked, state, buf);
     }
     let bytes = mode_header(h, AFTER_SHORT);
@@ -233,17 +194,6 @@ fn read_position(h: Header, state: State, buf: &mut [u8]) -> Outcome
     reply(&bytes, POSITION_LENGTH, state, buf)
 }
 
-// Where the page's speed stands in a list: bytes 14-15 after the header.
-const LIST_SPEED: usize = 26;
-
-fn is_good_list(list: &[u8]) -> bool
-    requires { ⌜ 32 ≤ length (now list) ⌝ }
-    ensures { λ r. ⌜ r ≡ goodList (now (list .entry)) ⌝ }
-{
-    let known = is_speed(count2(list, LIST_SPEED) as u16);
-    (list[SHORT_LIST] == DEVICE_PAGE) & (list[SHORT_LIST + 1] == DEVICE_PAGE_LENGTH) & known
-}
-
 fn mode_select(state: State, asked: u8, list: &[u8]) -> Outcome
     requires { ⌜ asked ≤ length (now list) ⌝ }
     ensures { λ r. ⌜ r ≡ selectWork state asked (now (list .entry)) ⌝ }
@@ -251,20 +201,9 @@ fn mode_select(state: State, asked: u8, list: &[u8]) -> Outcome
     let n = asked as usize;
     let full = n == FULL_LIST;
     if full {
-        let good = is_good_list(list);
-        if good {
-            let speed = count2(list, LIST_SPEED) as u16;
-            return end(with_speed(state, speed), Ending::Good, 0, n);
-        }
-        return end(state, Ending::Check(wrong_list()), 0, 0);
+        return select_speed(state, list);
     }
     end(state, Ending::Good, 0, n)
-}
-
-fn load_unload(state: State, load: bool) -> Outcome
-    ensures { λ r. ⌜ r ≡ loadWork state load ⌝ }
-{
-    end(with_loaded(stand_at(state, 0), load), Ending::Good, 0, 0)
 }
 
 fn locate(h: Header, state: State, target: usize) -> Outcome
@@ -297,7 +236,7 @@ pub fn work(image: &mut [u8], h: Header, state: State, q: Request, buf: &mut [u8
         Command::Write => write(image, h, state, q.count, buf),
         Command::WriteFilemarks => write_marks(image, h, state, q.count, buf),
         Command::Space => space(image, h, state, q.flags % 8, q.count),
-        Command::Inquiry => inquiry(state, q.length, buf),
+        Command::Inquiry => inquiry(SEQUENTIAL, state, q.length, buf),
         Command::ModeSelect => mode_select(state, q.length, buf),
         Command::ModeSense => mode_sense(h, state, q, buf),
         Command::LoadUnload => load_unload(state, is_set(q.length, 1)),

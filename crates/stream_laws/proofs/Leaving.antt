@@ -7,7 +7,7 @@ use mathlib.Core.Bool.{Bool, true, false, not, _&&_, false≢true}
 use mathlib.Core.List.{List, _++_}
 use mathlib.Core.Logic.{inl, inr, ⊎-elim}
 use mathlib.Core.Path.{_≡_, refl, sym, ap, _∙_}
-use borrow.Author.Tests.{leb-true, ltb-false, not-false}
+use borrow.Author.Tests.{leb-true, ltb-false, eqb-true, not-false}
 use lib.Dec.{leb, ltb, eqb}
 use lib.ListN.{length, getD, length-take}
 use Rattle.numbers.specs.Choice.{if_then_else_}
@@ -45,14 +45,17 @@ use Rattle.stream_parts.specs.Checks.{askedBy}
 use Rattle.packet_parts.specs.Replies.{senseBytes, devicePage, devicePageLength, shortList, fullList, modeHeader, firstOf, replyEnds, repliedInto}
 use Rattle.packet_parts.specs.Requests.{loadBit}
 use Rattle.packet_parts.specs.Shell.{carriedOut}
+use Rattle.packet_work.specs.Moving.{moves}
+use Rattle.packet_work.specs.Replies.{replyWork}
+use Rattle.packet_work.specs.Settings.{listSpeed, goodList, speedWork, loadWork}
 use Rattle.packet_parts.proofs.VerdictLaws.{Modest}
 use Rattle.stream_parts.specs.Replies.{positionLength, streamInquiry, modeBytes, positionBytes, modeLength, hasPage, modePage}
 use Rattle.stream.specs.Packet.{streamDevice, packetStep}
 use Rattle.stream_parts.specs.Requests.{requestOf, spaceCode, isBack, overBlocks, toEndOfData, magnitude}
 use Rattle.packet_state.specs.Senses.{wrongList, beyondData}
 use Rattle.packet_state.specs.States.{speeds, keepsRecordRules, atPlace, withSpeed}
-use Rattle.stream.specs.Work.{moves, endingOf, readEnds, readWork, writeEnding, writeEnds, writeWork, markWork, spaceRun, spaceWork}
-use Rattle.stream.specs.Work.{replyWork, listSpeed, goodList, selectWork, loadWork, locateWork, workOf}
+use Rattle.stream.specs.Work.{endingOf, readEnds, readWork, writeEnding, writeEnds, writeWork, markWork, spaceRun, spaceWork}
+use Rattle.stream.specs.Work.{selectWork, locateWork, workOf}
 use Rattle.packet_laws.specs.Words.{numberOf, blocksOf, bytesOf}
 use Rattle.packet_laws.proofs.Ways.{Way, cut, broken, unruly, short, ends-early, works, way}
 use Rattle.stream_laws.specs.Words.{storesOn, stores, gives, Untouched}
@@ -220,13 +223,15 @@ module _ (s : List ℕ) (st : State) (q : Request) (buf : List ℕ) (good : keep
   good-speed e = split (eqb (getD buf shortList 0) devicePage && eqb (getD buf (shortList + 1) 0) devicePageLength) (isIn (listSpeed buf) speeds) e .1
 
   selects : Leaves s st q buf false false (done (selectWork st (q .length) buf) s buf)
-  unfolding selectWork
+  unfolding selectWork speedWork
   selects =
       either LeavesOnly (not (eqb (q .length) fullList)) _ _
       (λ e. quiet st Good (q .length) (kept-rules .place) (kept-rules .speed) (omega arith))
       (λ e.
       either LeavesOnly (not (goodList buf)) _ _ (λ f. quiet st (Check wrongList) 0 (kept-rules .place) (kept-rules .speed) (omega arith))
-      (λ f. quiet (withSpeed st (listSpeed buf)) Good (q .length) (kept-rules .place) (good-speed (not-false _ f)) (omega arith)))
+      (λ f.
+      let full : q .length ≡ fullList = eqb-true (q .length) fullList (not-false _ e) in
+      quiet (withSpeed st (listSpeed buf)) Good fullList (kept-rules .place) (good-speed (not-false _ f)) (omega arith)))
 
   loads : (load : Bool) → Leaves s st q buf false false (done (loadWork st load) s buf)
   unfolding loadWork

@@ -15,25 +15,26 @@ use Rattle.packet_parts.specs.Replies.{firstOf, replyEnds}
 use Rattle.packet_parts.specs.Requests.{requestUnder}
 use Rattle.packet_parts.specs.Shell.{carriedOut, decided, answersTo}
 use Rattle.packet_parts.specs.Verdicts.{foundFirst, verdictBy}
+use Rattle.packet_work.specs.Settings.{goodList, speedWork, loadWork}
 use Rattle.stream_parts.specs.Checks.{askedBy}
 use Rattle.stream_parts.specs.Requests.{requestOf, isBack, magnitude}
 use Rattle.packet_state.specs.States.{keepsRecordRules}
-use Rattle.stream.specs.Work.{endingOf, readEnds, readWork, writeEnding, writeEnds, writeWork, markWork, spaceRun, spaceWork, goodList, selectWork}
-use Rattle.stream.specs.Work.{loadWork, locateWork, workOf}
+use Rattle.stream.specs.Work.{endingOf, readEnds, readWork, writeEnding, writeEnds, writeWork, markWork, spaceRun, spaceWork, selectWork}
+use Rattle.stream.specs.Work.{locateWork, workOf}
 use Rattle.stream_laws.specs.Demands.{PlatesPrint, WorkBegins}
 
 pub plates-print : PlatesPrint
 unfolding answersTo decided carriedOut verdictBy foundFirst askedBy requestOf requestUnder isBack magnitude keepsRecordRules streamCommand
     headerOf keepsHeaderRules fieldsOf allHold isIn kindOf kindAt blockAt layBlock layMark recordTo stopAt readFrom blocksOn blocksBack
     marksOn marksBack layFrom ends endingOf readEnds readWork writeEnding writeEnds writeWork markWork spaceRun spaceWork firstOf replyEnds
-    goodList selectWork loadWork locateWork workOf
+    goodList speedWork selectWork loadWork locateWork workOf
 plates-print = refl
 
 pub work-begins : WorkBegins
 unfolding answersTo decided carriedOut verdictBy foundFirst askedBy requestOf requestUnder isBack magnitude keepsRecordRules streamCommand
     headerOf keepsHeaderRules fieldsOf allHold isIn kindOf kindAt blockAt layBlock layMark recordTo stopAt readFrom blocksOn blocksBack
     marksOn marksBack layFrom ends endingOf readEnds readWork writeEnding writeEnds writeWork markWork spaceRun spaceWork firstOf replyEnds
-    goodList selectWork loadWork locateWork workOf
+    goodList speedWork selectWork loadWork locateWork workOf
 work-begins =
     record {
       read = (record { not-refused = refl; works = refl }, omega arith);

@@ -3,9 +3,7 @@ ghost use mathlib.Core.Path.{_≡_};
 ghost use Prim.Native.Nat.{_^_, _<_, _≤_};
 ghost use Rattle.packet_parts.specs.Verdicts.{isProtected, verdictBy};
 ghost use Rattle.stream_parts.specs.Checks.{badCode, badLength, badPage, askedBy};
-use crate::replies::FULL_LIST;
 use crate::replies::POSITION_LENGTH;
-use crate::replies::SHORT_LIST;
 use crate::replies::mode_length;
 use crate::requests::OVER_BLOCKS;
 use crate::requests::OVER_FILEMARKS;
@@ -15,6 +13,11 @@ use numbers::flags::is_set;
 use numbers::sizes::least;
 use opcodes::Command;
 use packet_parts::replies::DEVICE_PAGE;
+use packet_parts::replies::FULL_LIST;
+use packet_parts::replies::HEADER_ALONE;
+use packet_parts::replies::INQUIRY_LENGTH;
+use packet_parts::replies::SENSE_LENGTH;
+use packet_parts::replies::SHORT_LIST;
 use packet_parts::requests::Request;
 use packet_parts::requests::transfer_bytes;
 use packet_parts::verdicts::Asked;
@@ -26,12 +29,6 @@ use packet_parts::verdicts::storing;
 use packet_parts::verdicts::verdict_by;
 use packet_state::state::State;
 use packet_state::state::Verdict;
-
-const SENSE_LENGTH: usize = 20;
-
-const INQUIRY_LENGTH: usize = 36;
-
-const HEADER_ALONE: u8 = 0x00;
 
 fn bad_code(code: u8) -> bool
     ensures { λ r. ⌜ r ≡ badCode code ⌝ }

@@ -1,32 +1,21 @@
 // The bytes that 1Ah and 34h give, where the stream device has its own.
 ghost use mathlib.Core.Path.{_≡_};
-ghost use mathlib.Core.List.{_++_};
-ghost use Prim.Native.Nat.{_%_, _-_, _≤_};
+ghost use Prim.Native.Nat.{_%_, _≤_};
 ghost use Rattle.numbers.specs.Choice.{if_then_else_, _≡ᵇ_};
-ghost use Rattle.packet_parts.specs.Replies.{devicePage, shortList, fullList, modeHeader};
-ghost use Rattle.stream_parts.specs.Replies.{modePage, positionBytes};
+ghost use Rattle.packet_parts.specs.Replies.{devicePage, shortList, fullList};
+ghost use Rattle.stream_parts.specs.Replies.{positionBytes};
 use image::header::Header;
-use numbers::copying::copy_block;
 use numbers::counts::put_count4;
 use numbers::flags::weight_of;
 use packet_parts::replies::DEVICE_PAGE;
-use packet_parts::replies::device_page;
-use packet_parts::replies::mode_header;
+use packet_parts::replies::FULL_LIST;
+use packet_parts::replies::SHORT_LIST;
 use packet_state::state::State;
-
-// 15h: the two list lengths beside 0.
-pub const SHORT_LIST: usize = 12;
-
-pub const FULL_LIST: usize = 32;
-
-// The length after itself, in the first byte of a mode header.
-pub const AFTER_SHORT: u8 = 11;
-
-const AFTER_FULL: u8 = 31;
 
 pub const POSITION_LENGTH: usize = 20;
 
-const UNIT_BLOCKS: usize = 64;
+// 1Ah: bytes 12-13 of the device page.
+pub const UNIT_BLOCKS: usize = 64;
 
 pub fn mode_length(page: u8) -> usize
     ensures { λ r. ⌜ r ≡ (if page % 64 ≡ᵇ devicePage then fullList else shortList) ⌝ }
@@ -36,17 +25,6 @@ pub fn mode_length(page: u8) -> usize
         return FULL_LIST;
     }
     SHORT_LIST
-}
-
-pub fn mode_whole(h: Header, state: State) -> [u8; 32]
-    ensures { λ r. ⌜ r ≡ modeHeader h (fullList - 1) ++ modePage h state ⌝ }
-{
-    let header = mode_header(h, AFTER_FULL);
-    let page = device_page(h, state.speed, 0, UNIT_BLOCKS);
-    let mut bytes = [0; 32];
-    copy_block(&mut bytes, &header);
-    copy_block(&mut bytes[12..], &page);
-    bytes
 }
 
 pub fn position_bytes(h: Header, state: State) -> [u8; 20]

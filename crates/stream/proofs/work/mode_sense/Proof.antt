@@ -11,8 +11,8 @@ use Rattle.stream.proofs.work.mode_sense.Tie as tie
 cast-asked : tie.Need-cast-asked
 cast-asked c = search needs
 
-mode-whole-requires : tie.Need-mode-whole-requires
-mode-whole-requires c κs = search needs
+device-mode-requires : tie.Need-device-mode-requires
+device-mode-requires c κs = search needs
 
 slice-aggregate-reply : tie.Need-slice-aggregate-reply
 slice-aggregate-reply c = search needs
@@ -30,7 +30,7 @@ returns c =
     let b6 = b5 .before in
     let b10 = b6 .before .before .before .before in
     let e = with-page (b10 .args .h) (b10 .args .state) (b10 .args .q) (b6 .if1 .taken) in
-    replied-as _ _ _ _ _ _ _ (b5 .mode-whole .ensures ∙ e) (b2 .reply .ensures .0) (b2 .reply .ensures .1)
+    replied-as _ _ _ _ _ _ _ (b5 .device-mode .ensures ∙ e) (b2 .reply .ensures .0) (b2 .reply .ensures .1)
 
 mode-header-requires : tie.Need-mode-header-requires
 mode-header-requires c κs = search needs
@@ -58,7 +58,7 @@ mode-sense-spec =
     tie.close
     (tie.spec
     cast-asked
-    mode-whole-requires
+    device-mode-requires
     slice-aggregate-reply
     reply-requires
     same-length

@@ -1,9 +1,9 @@
--- `work::inquiry` meets its contract.
+-- `replies::inquiry` meets its contract.
 -- Assumes nothing.
 use Rattle.packet_parts.proofs.ReplyLaws.{replied-as}
 use borrow.Author.Needs.{needs}
-use Rattle.stream.proofs.work.inquiry.Statement.{statement}
-use Rattle.stream.proofs.work.inquiry.Tie as tie
+use Rattle.packet_work.proofs.replies.inquiry.Statement.{statement}
+use Rattle.packet_work.proofs.replies.inquiry.Tie as tie
 
 inquiry-bytes-requires : tie.Need-inquiry-bytes-requires
 inquiry-bytes-requires c κs = search needs

@@ -1,8 +1,8 @@
--- `replies::mode_whole` meets its contract.
+-- `replies::device_mode` meets its contract.
 -- Assumes nothing.
 use borrow.Author.Needs.{needs}
-use Rattle.stream_parts.proofs.replies.mode_whole.Statement.{statement}
-use Rattle.stream_parts.proofs.replies.mode_whole.Tie as tie
+use Rattle.packet_work.proofs.replies.device_mode.Statement.{statement}
+use Rattle.packet_work.proofs.replies.device_mode.Tie as tie
 
 mode-header-requires : tie.Need-mode-header-requires
 mode-header-requires c κs = search needs
@@ -40,8 +40,8 @@ returns c =
     let m = b .before .before .before in
     simp (c .before .copy-block2 .ensures, b .copy-block .ensures, m .device-page .ensures, m .before .mode-header .ensures)
 
-pub mode-whole-spec : {M : Type 1} → statement M
-mode-whole-spec =
+pub device-mode-spec : {M : Type 1} → statement M
+device-mode-spec =
     tie.close
     (tie.spec
     mode-header-requires

@@ -1,9 +1,9 @@
--- `work::request_sense` meets its contract.
+-- `replies::request_sense` meets its contract.
 -- Assumes nothing.
 use Rattle.packet_parts.proofs.ReplyLaws.{replied-as}
 use borrow.Author.Needs.{needs}
-use Rattle.stream.proofs.work.request_sense.Statement.{statement}
-use Rattle.stream.proofs.work.request_sense.Tie as tie
+use Rattle.packet_work.proofs.replies.request_sense.Statement.{statement}
+use Rattle.packet_work.proofs.replies.request_sense.Tie as tie
 
 sense-bytes-requires : tie.Need-sense-bytes-requires
 sense-bytes-requires c κs = search needs

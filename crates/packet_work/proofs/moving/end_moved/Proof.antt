@@ -1,8 +1,8 @@
--- `work::end_moved` meets its contract.
+-- `moving::end_moved` meets its contract.
 -- Assumes nothing.
 use borrow.Author.Needs.{needs}
-use Rattle.stream.proofs.work.end_moved.Statement.{statement}
-use Rattle.stream.proofs.work.end_moved.Tie as tie
+use Rattle.packet_work.proofs.moving.end_moved.Statement.{statement}
+use Rattle.packet_work.proofs.moving.end_moved.Tie as tie
 
 sub-blocks : tie.Need-sub-blocks
 sub-blocks c = search needs

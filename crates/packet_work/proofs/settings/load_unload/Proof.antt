@@ -1,9 +1,9 @@
--- `work::load_unload` meets its contract.
+-- `settings::load_unload` meets its contract.
 -- Assumes nothing.
-use Rattle.stream.specs.Work.{loadWork}
+use Rattle.packet_work.specs.Settings.{loadWork}
 use borrow.Author.Needs.{needs}
-use Rattle.stream.proofs.work.load_unload.Statement.{statement}
-use Rattle.stream.proofs.work.load_unload.Tie as tie
+use Rattle.packet_work.proofs.settings.load_unload.Statement.{statement}
+use Rattle.packet_work.proofs.settings.load_unload.Tie as tie
 
 stand-at-requires : tie.Need-stand-at-requires
 stand-at-requires c κs = search needs

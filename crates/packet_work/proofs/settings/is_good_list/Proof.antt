@@ -1,9 +1,9 @@
--- `work::is_good_list` meets its contract.
+-- `settings::is_good_list` meets its contract.
 -- Assumes nothing.
-use Rattle.stream.specs.Work.{goodList}
+use Rattle.packet_work.specs.Settings.{goodList}
 use borrow.Author.Needs.{needs}
-use Rattle.stream.proofs.work.is_good_list.Statement.{statement}
-use Rattle.stream.proofs.work.is_good_list.Tie as tie
+use Rattle.packet_work.proofs.settings.is_good_list.Statement.{statement}
+use Rattle.packet_work.proofs.settings.is_good_list.Tie as tie
 
 count2-requires : tie.Need-count2-requires
 count2-requires c κs = search needs
