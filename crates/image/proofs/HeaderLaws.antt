@@ -82,7 +82,7 @@ pub record Sound (h : Header) (n : ℕ) : Type 0 where
   pub all-within : h .blocks + h .capacity * h .size ≤ n
   pub recorded-blocks : h .blocks + h .recorded * h .size ≤ n
 
-picked : (t : Bool) (f h : Header) → cond t (Good f) Broken ≡ Good h → (t ≡ true) × (f ≡ h)
+pub picked : (t : Bool) (f h : Header) → cond t (Good f) Broken ≡ Good h → (t ≡ true) × (f ≡ h)
 picked true f h e = (refl, (cc))
 picked false f h e = let z : _≡_ {A = ℕ} 0 1 = cc in absurd (omega arith)
 
@@ -132,7 +132,7 @@ module _ (s : List ℕ) (h : Header) (good : headerOf s ≡ Good h) where
         recorded-blocks = omega arith;
       }
 
-broken-by : (t : Bool) (f : Header) → cond t (Good f) Broken ≡ Broken → t ≡ false
+pub broken-by : (t : Bool) (f : Header) → cond t (Good f) Broken ≡ Broken → t ≡ false
 broken-by true f e = let z : _≡_ {A = ℕ} 0 1 = cc in absurd (omega arith)
 broken-by false f e = refl
 

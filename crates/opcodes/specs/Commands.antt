@@ -33,6 +33,21 @@ streamCommands =
     ∷ 0x34 is ReadPosition
     ∷ []
 
+-- 02, A1: the ten commands of the floppy tape device, "blocks by number, no filemarks"
+abbrev pub floppyCommands : List Supported
+floppyCommands =
+    0x00 is TestUnitReady
+    ∷ 0x03 is RequestSense
+    ∷ 0x08 is Read
+    ∷ 0x0a is Write
+    ∷ 0x10 is WriteFilemarks
+    ∷ 0x12 is Inquiry
+    ∷ 0x15 is ModeSelect
+    ∷ 0x1a is ModeSense
+    ∷ 0x1b is LoadUnload
+    ∷ 0x2b is Locate
+    ∷ []
+
 abbrev pub lookUp : List Supported → ℕ → Command
 lookUp [] x = Unknown
 lookUp (c ∷ cs) x = if c .opcode ≡ᵇ x then c .command else lookUp cs x
@@ -41,7 +56,10 @@ lookUp (c ∷ cs) x = if c .opcode ≡ᵇ x then c .command else lookUp cs x
 unfoldable pub streamCommand : ℕ → Command
 streamCommand x = lookUp streamCommands x
 
--- the numbers that the table holds for the commands, in the order of their opcodes; 0 is unknown
+unfoldable pub floppyCommand : ℕ → Command
+floppyCommand x = lookUp floppyCommands x
+
+-- the numbers that a table holds for the commands, in the order of their opcodes; 0 is unknown
 unfoldable pub commandOfClass : ℕ → Command
 commandOfClass k =
     if k ≡ᵇ 1 then TestUnitReady else

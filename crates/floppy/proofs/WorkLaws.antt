@@ -1,0 +1,133 @@
+-- The ways of the commands' functions.
+-- Assumes nothing.
+use mathlib.Core.Path.{_≡_, ap}
+use mathlib.Core.Bool.{Bool, true, false}
+use mathlib.Core.List.{List, _++_}
+use Prim.Native.Nat.{ℕ, _≤_}
+use Rattle.image.specs.declared.header.Header.{Header}
+use Rattle.opcodes.specs.declared.Command.{Command}
+use Rattle.opcodes.specs.declared.Command.the-variants.{Unknown, TestUnitReady, Rewind, RequestSense, Read, Write, WriteFilemarks, Space, Inquiry}
+use Rattle.opcodes.specs.declared.Command.the-variants.{ModeSelect, ModeSense, LoadUnload, Locate, ReadPosition}
+use Rattle.transfer.specs.declared.Moved.{Moved}
+use Rattle.transfer.specs.Reading.{Reading, reads, readFrom}
+use Rattle.transfer.specs.Writing.{Writing, writes, writeFrom}
+use Rattle.transfer.proofs.ReadLaws.{read-left}
+use Rattle.transfer.proofs.WriteLaws.{lay-left}
+use Rattle.packet_state.specs.declared.state.Ending.{Ending}
+use Rattle.packet_state.specs.declared.state.Ending.the-variants.{Good}
+use Rattle.packet_state.specs.declared.state.Outcome.{Outcome}
+use Rattle.packet_state.specs.declared.state.State.{State}
+use Rattle.packet_state.specs.States.{atPlace}
+use Rattle.packet_parts.specs.declared.requests.Request.{Request}
+use Rattle.packet_parts.specs.Answers.{done, ends}
+use Rattle.packet_parts.specs.Replies.{senseBytes, devicePage, modeHeader, devicePageBytes, replyEnds, repliedInto}
+use Rattle.packet_parts.specs.Requests.{pageCode, loadBit}
+use Rattle.packet_work.specs.Moving.{moves}
+use Rattle.packet_work.specs.Settings.{loadWork}
+use Rattle.floppy_parts.specs.declared.tape.Tape.{Tape}
+use Rattle.floppy_parts.specs.Checks.{askedBy}
+use Rattle.floppy_parts.specs.Replies.{floppyInquiry, floppyMode, tapePage, tapeMode, modeBytes}
+use Rattle.floppy_parts.specs.Tape.{product}
+use Rattle.numbers.specs.Choice.{_≡ᵇ_}
+use Rattle.floppy.specs.Work.{readEnding, readEnds, readWork, writeEnding, writeEnds, writeWork, selectWork, workOf}
+
+-- ---- READ and WRITE
+
+module _ (s : List ℕ) (h : Header) (end : ℕ) (st : State) (asked : ℕ) (buf new : List ℕ) (m : Moved) where
+  module _ (run : reads new m ≡ readFrom s (h .size) (h .kinds) (h .blocks) end asked 0 (st .position) buf) where
+    pub read-less : m .left ≤ asked
+    read-less = rw (ap (λ (r : Reading). r .moved .left) run) (read-left s (h .size) (h .kinds) (h .blocks) end asked 0 (st .position) buf)
+
+    pub read-went : (x : Ending) (r : Outcome) → x ≡ readEnding (m .stop) (m .left) → r ≡ moves st asked (h .size) m x
+        → done r s new ≡ readWork s h end st asked buf
+    unfolding readWork readEnds
+    read-went x r p q = rw (← run, q, p)
+
+  module _ (run : writes new m ≡ writeFrom (h .size) (h .kinds) (h .blocks) end buf asked 0 (st .position) s) where
+    pub write-less : m .left ≤ asked
+    write-less = rw (ap (λ (r : Writing). r .moved .left) run) (lay-left _ _ _ asked 0 (st .position) s)
+
+    pub write-went : (x : Ending) (r : Outcome) → x ≡ writeEnding (m .left) → r ≡ moves st asked (h .size) m x
+        → done r new buf ≡ writeWork s h end st asked buf
+    unfolding writeWork writeEnds
+    write-went x r p q = rw (← run, q, p)
+
+-- ---- 1Ah
+
+module _ (h : Header) (st : State) (t : Tape) (q : Request) where
+  pub device-shown : (pageCode q ≡ᵇ devicePage) ≡ true → modeHeader h 31 ++ devicePageBytes h (st .speed) floppyMode (t .bseg) ≡ modeBytes h st t q
+  device-shown e = rw e
+
+  pub tape-shown : (pageCode q ≡ᵇ devicePage) ≡ false → (pageCode q ≡ᵇ tapePage) ≡ true → tapeMode h t ≡ modeBytes h st t q
+  tape-shown e f = rw (e, f)
+
+  pub header-shown : (pageCode q ≡ᵇ devicePage) ≡ false → (pageCode q ≡ᵇ tapePage) ≡ false → modeHeader h 11 ≡ modeBytes h st t q
+  header-shown e f = rw (e, f)
+
+-- ---- by command
+
+pub needed-as : (k d : Command) (h : Header) (end : ℕ) (q : Request) (n : ℕ) → k ≡ d → askedBy k h end q .needed ≤ n → askedBy d h end q .needed ≤ n
+needed-as k d h end q n e l = rw e at l
+
+module _ (k : Command) (s : List ℕ) (h : Header) (st : State) (t : Tape) (q : Request) (buf : List ℕ) (r : Outcome) where
+  -- commands that do nothing more, and first bytes that are none
+  module _ (p : r ≡ ends st Good 0 0) where
+    pub was-unknown : k ≡ Unknown → done r s buf ≡ workOf k s h st t q buf
+    unfolding workOf
+    was-unknown e = rw (e, p)
+
+    pub was-tested : k ≡ TestUnitReady → done r s buf ≡ workOf k s h st t q buf
+    unfolding workOf
+    was-tested e = rw (e, p)
+
+    pub was-rewind : k ≡ Rewind → done r s buf ≡ workOf k s h st t q buf
+    unfolding workOf
+    was-rewind e = rw (e, p)
+
+    pub was-flushed : k ≡ WriteFilemarks → done r s buf ≡ workOf k s h st t q buf
+    unfolding workOf
+    was-flushed e = rw (e, p)
+
+    pub was-space : k ≡ Space → done r s buf ≡ workOf k s h st t q buf
+    unfolding workOf
+    was-space e = rw (e, p)
+
+    pub was-position : k ≡ ReadPosition → done r s buf ≡ workOf k s h st t q buf
+    unfolding workOf
+    was-position e = rw (e, p)
+
+  pub was-selected : k ≡ ModeSelect → r ≡ selectWork h st (q .length) buf → done r s buf ≡ workOf k s h st t q buf
+  unfolding workOf
+  was-selected e p = rw (e, p)
+
+  pub was-loaded : (load : Bool) → k ≡ LoadUnload → load ≡ loadBit q → r ≡ loadWork st load → done r s buf ≡ workOf k s h st t q buf
+  unfolding workOf
+  was-loaded load e l p = rw (e, p, l)
+
+  pub was-located : (next : State) → k ≡ Locate → next ≡ atPlace st (q .target) → r ≡ ends next Good 0 0 → done r s buf ≡ workOf k s h st t q buf
+  unfolding workOf
+  was-located next e a p = rw (e, p, a)
+
+  module _ (new : List ℕ) where
+    pub was-sensed : k ≡ RequestSense → r ≡ replyEnds (senseBytes (st .sense)) (q .length) st → new ≡ repliedInto (senseBytes (st .sense)) (q .length) buf
+        → done r s new ≡ workOf k s h st t q buf
+    unfolding workOf
+    was-sensed e p n = rw (e, p, n)
+
+    pub was-read : (end : ℕ) → k ≡ Read → end ≡ product t → done r s new ≡ readWork s h end st (q .length) buf → done r s new ≡ workOf k s h st t q buf
+    unfolding workOf
+    was-read end e l p = rw (e, ← l) p
+
+    pub was-written : (end : ℕ) → k ≡ Write → end ≡ product t → done r new buf ≡ writeWork s h end st (q .length) buf → done r new buf ≡ workOf k s h st t q buf
+    unfolding workOf
+    was-written end e l p = rw (e, ← l) p
+
+    pub was-asked : k ≡ Inquiry → r ≡ replyEnds floppyInquiry (q .length) st → new ≡ repliedInto floppyInquiry (q .length) buf
+        → done r s new ≡ workOf k s h st t q buf
+    unfolding workOf
+    was-asked e p n = rw (e, p, n)
+
+    pub was-shown : k ≡ ModeSense → r ≡ replyEnds (modeBytes h st t q) (q .length) st → new ≡ repliedInto (modeBytes h st t q) (q .length) buf
+        → done r s new ≡ workOf k s h st t q buf
+    unfolding workOf
+    was-shown e p n = rw (e, p, n)

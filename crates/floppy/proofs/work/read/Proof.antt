@@ -1,0 +1,37 @@
+-- `work::read` meets its contract.
+-- Assumes nothing.
+use native.Mathlib.Nat.{mul-le-mul-right}
+use native.Mathlib.Omega.{arith}
+use Rattle.image.proofs.HeaderLaws.{sound}
+use Rattle.floppy.proofs.WorkLaws.{read-less, read-went}
+use borrow.Author.Needs.{needs}
+use Rattle.floppy.proofs.work.read.Statement.{statement}
+use Rattle.floppy.proofs.work.read.Tie as tie
+
+read-blocks-requires : tie.Need-read-blocks-requires
+read-blocks-requires c κs =
+    let start = c .before .before .before in
+    let g = sound _ _ (start .pre .0) in
+    let m = mul-le-mul-right (start .args .h .size) (start .pre .1 .0) in
+    omega (arith, start .pre)
+
+read-ending-requires : tie.Need-read-ending-requires
+read-ending-requires c κs = search needs
+
+end-moved-requires : tie.Need-end-moved-requires
+end-moved-requires c κs =
+    let start = c .before .before .before .before .before .before .before in
+    let g = sound _ _ (start .pre .0) in
+    let l = read-less _ (start .args .h) (start .args .end) (start .args .state) _ _ _ _ (c .before .before .before .read-blocks .ensures) in
+    omega (arith, start .fits .asked .fits)
+
+same-length : tie.Need-same-length
+same-length c = search needs
+
+returns : tie.Need-returns
+returns c = search read-went
+
+pub read-spec : {M : Type 1} → statement M
+read-spec =
+    tie.close
+    (tie.spec read-blocks-requires read-ending-requires end-moved-requires same-length returns)

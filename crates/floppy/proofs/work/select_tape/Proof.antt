@@ -1,0 +1,53 @@
+-- `work::select_tape` meets its contract.
+-- Assumes nothing.
+use Rattle.floppy.specs.Work.{tapeWork}
+use borrow.Author.Needs.{needs}
+use Rattle.floppy.proofs.work.select_tape.Statement.{statement}
+use Rattle.floppy.proofs.work.select_tape.Tie as tie
+
+is-good-tape-list-requires : tie.Need-is-good-tape-list-requires
+is-good-tape-list-requires c κs = search needs
+
+listed-tape-requires : tie.Need-listed-tape-requires
+listed-tape-requires c κs = search needs
+
+product-of-requires : tie.Need-product-of-requires
+product-of-requires c κs = search needs
+
+place-under-requires : tie.Need-place-under-requires
+place-under-requires c κs = search needs
+
+stand-at-requires : tie.Need-stand-at-requires
+stand-at-requires c κs = search needs
+
+end-requires : tie.Need-end-requires
+end-requires c κs = search needs
+
+returns : tie.Need-returns
+unfolding tapeWork
+returns c = simp (c .end .ensures, c .before .stand-at .ensures, c .before .before .place-under .ensures, c .before .before .before .product-of .ensures, c .before .before .before .before .listed-tape .ensures, c .before .before .before .before .before .if1 .taken, ← c .before .before .before .before .before .before .is-good-tape-list .ensures)
+
+wrong-list-requires : tie.Need-wrong-list-requires
+wrong-list-requires c κs = search needs
+
+end-requires-2 : tie.Need-end-requires-2
+end-requires-2 c κs = search needs
+
+returns-2 : tie.Need-returns-2
+unfolding tapeWork
+returns-2 c = simp (c .end2 .ensures, c .before .wrong-list .ensures, c .before .before .if1 .left, ← c .before .before .before .is-good-tape-list .ensures)
+
+pub select-tape-spec : {M : Type 1} → statement M
+select-tape-spec =
+    tie.close
+    (tie.spec
+    is-good-tape-list-requires
+    listed-tape-requires
+    product-of-requires
+    place-under-requires
+    stand-at-requires
+    end-requires
+    returns
+    wrong-list-requires
+    end-requires-2
+    returns-2)

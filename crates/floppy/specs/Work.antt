@@ -1,0 +1,142 @@
+-- The work of each command of the floppy tape device, once nothing before it ended the packet.
+-- Assumes nothing.
+use Prim.Native.Nat.{ℕ, _-_, _≤_}
+use mathlib.Core.Bool.{Bool, not, _&&_}
+use mathlib.Core.List.{List}
+use mathlib.Core.Path.{_≡_}
+use Rattle.numbers.specs.Choice.{if_then_else_, _≡ᵇ_, _<ᵇ_, _≤ᵇ_}
+use Rattle.image.specs.declared.header.Header.{Header}
+use Rattle.image.specs.declared.header.Judged.the-variants.{Good as GoodHeader}
+use Rattle.image.specs.Header.{headerOf}
+use Rattle.opcodes.specs.declared.Command.{Command}
+use Rattle.opcodes.specs.declared.Command.the-variants.{Unknown, TestUnitReady, Rewind, RequestSense, Read, Write, WriteFilemarks, Space, Inquiry}
+use Rattle.opcodes.specs.declared.Command.the-variants.{ModeSelect, ModeSense, LoadUnload, Locate, ReadPosition}
+use Rattle.transfer.specs.declared.Stop.{Stop}
+use Rattle.transfer.specs.declared.Stop.the-variants.{Full, AtFilemark, AtBadBlock, AtEnd, AtBeginning}
+use Rattle.transfer.specs.Reading.{Reading, readFrom}
+use Rattle.transfer.specs.Writing.{Writing, writeFrom}
+use Rattle.packet_state.specs.declared.state.Ending.{Ending}
+use Rattle.packet_state.specs.declared.state.Ending.the-variants.{Good, Check}
+use Rattle.packet_state.specs.declared.state.Outcome.{Outcome}
+use Rattle.packet_state.specs.declared.state.State.{State}
+use Rattle.packet_state.specs.Senses.{unreadableBlock, endOfData, volumeOverflow, wrongList}
+use Rattle.packet_state.specs.States.{highestKey, atPlace}
+use Rattle.packet_parts.specs.declared.requests.Request.{Request}
+use Rattle.packet_parts.specs.Answers.{Left, done, ends}
+use Rattle.packet_parts.specs.Replies.{senseBytes, fullList}
+use Rattle.packet_parts.specs.Requests.{loadBit}
+use Rattle.packet_work.specs.Moving.{moves}
+use Rattle.packet_work.specs.Replies.{replyWork}
+use Rattle.packet_work.specs.Settings.{speedWork, loadWork}
+use Rattle.floppy_parts.specs.declared.tape.Tape.{Tape}
+use Rattle.floppy_parts.specs.Replies.{floppyInquiry, tapePage, tapePageLength, tapeList, modeBytes}
+use Rattle.floppy_parts.specs.Requests.{blocksAsked, blockNumber}
+use Rattle.floppy_parts.specs.Tape.{product, pageByte, resetTape, listedTape}
+
+-- what a packet has passed when it comes to its work: the image has the header h, and the record keeps rule 3
+pub record Passed (s : List ℕ) (h : Header) (st : State) (t : Tape) : Type 0 where
+  pub header : headerOf s ≡ GoodHeader h
+  pub within : product t ≤ h .capacity
+  pub place : st .position ≤ product t
+  pub key : st .sense .key ≤ highestKey
+
+-- ---- 08h READ
+
+-- "Reads and writes stop at the product as the stream device does at U and at C; .. kind 2 counts as unreadable. Its residue on an unreadable block leaves out
+-- the block in error"
+unfoldable pub readEnding : Stop → ℕ → Ending
+readEnding Full left = Good
+readEnding AtFilemark left = Check (unreadableBlock (left - 1))
+readEnding AtBadBlock left = Check (unreadableBlock (left - 1))
+readEnding AtEnd left = Check (endOfData left)
+readEnding AtBeginning left = Good
+
+unfoldable pub readEnds : State → ℕ → ℕ → List ℕ → Reading → Left State
+readEnds st asked size s r = done (moves st asked size (r .moved) (readEnding (r .moved .stop) (r .moved .left))) s (r .buf)
+
+-- up to the product, `end`
+unfoldable pub readWork : List ℕ → Header → ℕ → State → ℕ → List ℕ → Left State
+readWork s h end st asked buf =
+    readEnds st asked (h .size) s (readFrom s (h .size) (h .kinds) (h .blocks) end asked 0 (st .position) buf)
+
+-- ---- 0Ah WRITE
+
+-- "W plays no part": no early warning
+unfoldable pub writeEnding : ℕ → Ending
+writeEnding left = if 1 ≤ᵇ left then Check (volumeOverflow left) else Good
+
+-- "a write leaves U": bytes and kind 1 stored, no header byte
+unfoldable pub writeEnds : State → ℕ → ℕ → List ℕ → Writing → Left State
+writeEnds st asked size buf w = done (moves st asked size (w .moved) (writeEnding (w .moved .left))) (w .image) buf
+
+unfoldable pub writeWork : List ℕ → Header → ℕ → State → ℕ → List ℕ → Left State
+writeWork s h end st asked buf =
+    writeEnds st asked (h .size) buf (writeFrom (h .size) (h .kinds) (h .blocks) end buf asked 0 (st .position) s)
+
+-- ---- 15h MODE SELECT
+
+-- page 2Bh, "a list that makes the product exceed C is 5/26/00"
+unfoldable pub goodTapeList : Header → List ℕ → Bool
+goodTapeList h list =
+    (pageByte list 0 ≡ᵇ tapePage) && (pageByte list 1 ≡ᵇ tapePageLength) && (product (listedTape list) ≤ᵇ h .capacity)
+
+-- "one that puts it below P sets P 0"
+unfoldable pub placeUnder : ℕ → ℕ → ℕ
+placeUnder end p = if end <ᵇ p then 0 else p
+
+unfoldable pub tapeWork : Header → State → List ℕ → Outcome
+tapeWork h st list =
+    if not (goodTapeList h list) then ends st (Check wrongList) 0 0 else
+    ends (atPlace st (placeUnder (product (listedTape list)) (st .position))) Good 0 tapeList
+
+-- lengths 0 and 12 set nothing; 32 sets the speed, as 01 says; 28 the tape parameters
+unfoldable pub selectWork : Header → State → ℕ → List ℕ → Outcome
+selectWork h st asked list =
+    if asked ≡ᵇ fullList then speedWork st list else
+    if asked ≡ᵇ tapeList then tapeWork h st list else
+    ends st Good 0 asked
+
+-- ---- by command
+
+-- 10h "flushes and stores nothing"; 2Bh "LOCATE runs to BSEG*SEGTRK*TRKS - 1", judged before the work
+unfoldable pub workOf : Command → List ℕ → Header → State → Tape → Request → List ℕ → Left State
+workOf Unknown s h st t q buf = done (ends st Good 0 0) s buf
+workOf TestUnitReady s h st t q buf = done (ends st Good 0 0) s buf
+workOf Rewind s h st t q buf = done (ends st Good 0 0) s buf
+workOf RequestSense s h st t q buf = replyWork (senseBytes (st .sense)) (q .length) st s buf
+workOf Read s h st t q buf = readWork s h (product t) st (blocksAsked q) buf
+workOf Write s h st t q buf = writeWork s h (product t) st (blocksAsked q) buf
+workOf WriteFilemarks s h st t q buf = done (ends st Good 0 0) s buf
+workOf Space s h st t q buf = done (ends st Good 0 0) s buf
+workOf Inquiry s h st t q buf = replyWork floppyInquiry (q .length) st s buf
+workOf ModeSelect s h st t q buf = done (selectWork h st (q .length) buf) s buf
+workOf ModeSense s h st t q buf = replyWork (modeBytes h st t q) (q .length) st s buf
+workOf LoadUnload s h st t q buf = done (loadWork st (loadBit q)) s buf
+workOf Locate s h st t q buf = done (ends (atPlace st (blockNumber q)) Good 0 0) s buf
+workOf ReadPosition s h st t q buf = done (ends st Good 0 0) s buf
+
+-- ---- the tape parameters after it
+
+-- "page 2Bh is read and set": by a good list of 28 bytes
+unfoldable pub selectedTape : Header → Tape → ℕ → List ℕ → Tape
+selectedTape h t asked list = if (asked ≡ᵇ tapeList) && goodTapeList h list then listedTape list else t
+
+-- "After a load .. BSEG is 1, SEGTRK C, TRKS 1 and the rest 0"
+unfoldable pub loadedTape : Header → Tape → Bool → Tape
+loadedTape h t load = if load then resetTape (h .capacity) else t
+
+unfoldable pub tapeAfter : Command → Header → Tape → Request → List ℕ → Tape
+tapeAfter Unknown h t q list = t
+tapeAfter TestUnitReady h t q list = t
+tapeAfter Rewind h t q list = t
+tapeAfter RequestSense h t q list = t
+tapeAfter Read h t q list = t
+tapeAfter Write h t q list = t
+tapeAfter WriteFilemarks h t q list = t
+tapeAfter Space h t q list = t
+tapeAfter Inquiry h t q list = t
+tapeAfter ModeSelect h t q list = selectedTape h t (q .length) list
+tapeAfter ModeSense h t q list = t
+tapeAfter LoadUnload h t q list = loadedTape h t (loadBit q)
+tapeAfter Locate h t q list = t
+tapeAfter ReadPosition h t q list = t

@@ -1,0 +1,6 @@
+pub mod Tape
+pub mod Headers
+pub mod Rules
+pub mod Requests
+pub mod Replies
+pub mod Checks
