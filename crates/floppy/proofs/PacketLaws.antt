@@ -1,14 +1,11 @@
 -- The ways of `mount`, `decide` and `packet`.
 -- Assumes nothing.
 use mathlib.Core.Path.{_≡_, sym, _∙_}
-use mathlib.Core.Bool.{Bool, true, false, _&&_}
+use mathlib.Core.Bool.{Bool, true, false}
 use mathlib.Core.List.{List}
 use Prim.Native.Nat.{ℕ, _≤_}
-use borrow.Author.Tests.{eq-eqb, ne-eqb, leb-true}
-use lib.Dec.{leb}
+use borrow.Author.Tests.{eq-eqb, ne-eqb}
 use lib.ListN.{length}
-use Rattle.numbers.specs.Member.{isIn}
-use Rattle.numbers.proofs.RuleLaws.{split}
 use Rattle.image.specs.declared.header.Header.{Header}
 use Rattle.image.specs.declared.header.Judged.{Judged}
 use Rattle.image.specs.declared.header.Judged.the-variants.{Good, Broken}
@@ -19,7 +16,6 @@ use Rattle.packet_state.specs.declared.state.Sense.{Sense}
 use Rattle.packet_state.specs.declared.state.State.{State}
 use Rattle.packet_state.specs.declared.state.Verdict.{Verdict}
 use Rattle.packet_state.specs.declared.state.Verdict.the-variants.{Refuses, Ends, Works}
-use Rattle.packet_state.specs.States.{speeds, keepsRecordRules}
 use Rattle.packet_parts.specs.declared.requests.Request.{Request}
 use Rattle.packet_parts.specs.Answers.{done, refused, endsBefore, ends}
 use Rattle.packet_parts.specs.Shell.{carriedOut, decided, answersTo}
@@ -73,19 +69,6 @@ module _ (s : List ℕ) (h : Header) (st : State) (t : Tape) (q : Request) (buf 
   worked s' b' after e a p j = rw (← last, ← found, e, j, ← p, a)
 
 -- ---- the ways of `packet`
-
-record-says : (end : ℕ) (st : State) → keepsRecordRules end st ≡ true → st .sense .key ≤ 15
-unfolding keepsRecordRules
-record-says end st e = leb-true _ _ (split (leb (st .position) end && isIn (st .speed) speeds) (leb (st .sense .key) 15) e .1)
-
-pub rules-say : (h : Header) (f : Floppy) (b : Bool) → b ≡ keepsFloppyRules h f → b ≡ true
-    → (product (f .tape) ≤ h .capacity) × (f .shared .position ≤ product (f .tape)) × (f .shared .sense .key ≤ 15)
-unfolding keepsFloppyRules
-rules-say h f b p e =
-    let rules = keepsRecordRules (h .recorded) (f .shared) in
-    let x = split (rules && leb (product (f .tape)) (h .capacity)) (leb (f .shared .position) (product (f .tape))) (sym p ∙ e) in
-    let y = split rules (leb (product (f .tape)) (h .capacity)) (x .0) in
-    (leb-true _ _ (y .1), leb-true _ _ (x .1), record-says (h .recorded) (f .shared) (y .0))
 
 module _ (s : List ℕ) (f : Floppy) (packet buf : List ℕ) (out : Outcome) (r : FloppyOutcome) where
   pub not-twelve : (length packet ≡ 12 → ⊥) → out ≡ refused (f .shared) 1 → r ≡ joined out (f .tape) → leaves r s buf ≡ floppyStep s f packet buf

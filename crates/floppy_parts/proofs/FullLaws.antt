@@ -44,11 +44,15 @@ module _ (s : List ℕ) where
   short-of e = broken-by (isFull s) (fieldsOf s) e
 
   -- a full image keeps the header rules, and its U is its C
-  pub full-says : isFull s ≡ true → (keepsHeaderRules s ≡ true) × (fieldsOf s .capacity ≤ fieldsOf s .recorded)
+  pub full-image : isFull s ≡ true → (keepsHeaderRules s ≡ true) × (fieldsOf s .capacity ≤ fieldsOf s .recorded)
   unfolding isFull
-  full-says e =
+  full-image e =
       let x = split (keepsHeaderRules s) (not (ltb (fieldsOf s .recorded) (fieldsOf s .capacity))) e in
       (x .0, ltb-false _ _ (not-true _ (x .1)))
 
   pub full-header : (h : Header) → fullHeaderOf s ≡ Good h → headerOf s ≡ Good h
-  full-header h e = good-header s (full-says (full-of h e) .0) ∙ ap Good (full-fields h e)
+  full-header h e = good-header s (full-image (full-of h e) .0) ∙ ap Good (full-fields h e)
+
+  pub image-full : keepsHeaderRules s ≡ true → fieldsOf s .capacity ≤ fieldsOf s .recorded → isFull s ≡ true
+  unfolding isFull
+  image-full e l = rw (e, le-ltb _ _ l)

@@ -1,1 +1,2 @@
 pub mod FullLaws
+pub mod RuledLaws

@@ -1,2 +1,4 @@
 pub mod Ways
+pub mod Endings
 pub mod Refusals
+pub mod Replies

@@ -1,7 +1,7 @@
 -- The ways that a packet can go: one case split, cited by every theorem.
 -- Assumes nothing.
 use Prim.Native.Nat.{ℕ, _≤_, _<_}
-use mathlib.Core.Bool.{Bool, true, false, not}
+use mathlib.Core.Bool.{Bool, true, false, not, _&&_, _||_, true≢false}
 use mathlib.Core.List.{List}
 use mathlib.Core.Path.{_≡_, refl}
 use borrow.Author.Tests.{eqb-true, eqb-false, eq-eqb}
@@ -10,14 +10,27 @@ use lib.ListN.{length}
 use Rattle.numbers.specs.Choice.{if_then_else_}
 use Rattle.image.specs.Header.{fieldsOf, brokenImage}
 use Rattle.packet_state.specs.declared.state.Sense.{Sense}
+use Rattle.packet_state.specs.declared.state.State.{State}
 use Rattle.packet_state.specs.declared.state.Verdict.{Verdict}
 use Rattle.packet_state.specs.declared.state.Verdict.the-variants.{Refuses, Ends, Works}
+use Rattle.packet_parts.specs.declared.verdicts.Asked.{Asked}
 use Rattle.packet_parts.specs.Answers.{Left, notTwelveBytes, unrulyRecord, shortBuffer}
 use Rattle.packet_parts.specs.Requests.{packetLength}
 use Rattle.packet_parts.specs.Shell.{Device, refuses, carriedOut, foundBy, endsFirst, decided, answersTo}
-use Rattle.packet_parts.specs.Verdicts.{isProtected}
+use Rattle.packet_parts.specs.Verdicts.{isProtected, isHeld, endsEarly}
 use Rattle.packet_parts.proofs.VerdictLaws.{Modest, Found, found-early, found-short, found-clear, found}
 use Rattle.packet_laws.specs.Words.{roomFor, Unended, Passes}
+
+third-false : (a b c d e f : Bool) → (a || b || c || d || e || f) ≡ false → c ≡ false
+third-false true b c d e f q = absurd (true≢false q)
+third-false false true c d e f q = absurd (true≢false q)
+third-false false false true d e f q = q
+third-false false false false d e f q = refl
+
+field-fine : (a : Asked) (protected : Bool) (st : State) → endsEarly a protected st ≡ false → a .field ≡ false
+unfolding endsEarly
+field-fine a protected st =
+    third-false (isHeld (st .attention) (a .exempt)) (not (a .known)) (a .field) (a .length) (a .mounted && not (st .loaded)) (a .stores && protected)
 
 module _ {R : Type 0} (d : Device R) (s : List ℕ) (st : R) (packet buf : List ℕ) where
   abbrev pub FoundFor : Verdict → Type 0
@@ -57,6 +70,10 @@ module _ {R : Type 0} (d : Device R) (s : List ℕ) (st : R) (packet buf : List 
   pub way : Way (answersTo d s st packet buf)
   unfolding answersTo
   way = by-tests _ _ _ refl refl refl
+
+  -- nothing ended it, so no field of it is bad
+  pub unended-field : Unended d s st packet buf → d .asks (fieldsOf s) st (d .request packet) .field ≡ false
+  unended-field e = field-fine _ _ _ e
 
   -- past 1, 2 and 3 the verdict decides
   pub step-passed : Passes d s st packet buf → answersTo d s st packet buf ≡ carried (foundBy d (fieldsOf s) st (d .request packet) (length buf))

@@ -1,11 +1,16 @@
 -- The words in which the promises of a packet device are stated.
 -- Assumes nothing.
 use Prim.Native.Nat.{ℕ, _≤_, _<_}
-use mathlib.Core.Bool.{true, false}
+use mathlib.Core.Bool.{Bool, true, false}
 use mathlib.Core.List.{List}
 use mathlib.Core.Path.{_≡_}
 use lib.ListN.{length}
+use Rattle.numbers.specs.Choice.{if_then_else_}
 use Rattle.image.specs.Header.{fieldsOf, brokenImage}
+use Rattle.opcodes.specs.declared.Command.{Command}
+use Rattle.opcodes.specs.declared.Command.the-variants.{Unknown, TestUnitReady, Rewind, RequestSense, Read, Write, WriteFilemarks, Space, Inquiry}
+use Rattle.opcodes.specs.declared.Command.the-variants.{ModeSelect, ModeSense, LoadUnload, Locate, ReadPosition}
+use Rattle.packet_state.specs.declared.state.Sense.{Sense}
 use Rattle.packet_state.specs.declared.state.Verdict.the-variants.{Works}
 use Rattle.packet_parts.specs.Answers.{Left, notTwelveBytes, unrulyRecord, shortBuffer}
 use Rattle.packet_parts.specs.Requests.{packetLength}
@@ -24,6 +29,27 @@ blocksOf x = x .answer .blocks
 
 abbrev pub bytesOf : {R : Type 0} → Left R → ℕ
 bytesOf x = x .answer .bytes
+
+-- the information where the sense is valid, else 0
+abbrev pub residueOf : Sense → ℕ
+residueOf x = if x .valid then x .information else 0
+
+-- the commands that give bytes: 03h, 08h, 12h, 1Ah, 34h
+abbrev pub gives : Command → Bool
+gives Unknown = false
+gives TestUnitReady = false
+gives Rewind = false
+gives RequestSense = true
+gives Read = true
+gives Write = false
+gives WriteFilemarks = false
+gives Space = false
+gives Inquiry = true
+gives ModeSelect = false
+gives ModeSense = true
+gives LoadUnload = false
+gives Locate = false
+gives ReadPosition = true
 
 -- ---- refusals
 

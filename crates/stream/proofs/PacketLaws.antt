@@ -3,10 +3,9 @@
 use mathlib.Core.Path.{_≡_, sym, _∙_}
 use mathlib.Core.Bool.{Bool, true, false}
 use mathlib.Core.List.{List}
-use Prim.Native.Nat.{ℕ, _≤_}
-use borrow.Author.Tests.{eq-eqb, ne-eqb, leb-true}
+use Prim.Native.Nat.{ℕ}
+use borrow.Author.Tests.{eq-eqb, ne-eqb}
 use lib.ListN.{length}
-use Rattle.numbers.proofs.RuleLaws.{split}
 use Rattle.image.specs.declared.header.Header.{Header}
 use Rattle.image.specs.declared.header.Judged.{Judged}
 use Rattle.image.specs.declared.header.Judged.the-variants.{Good, Broken}
@@ -43,12 +42,6 @@ module _ (s : List ℕ) (h : Header) (st : State) (q : Request) (buf : List ℕ)
   worked s' b' p e t = rw (← p, e) t
 
 -- ---- the ways of `packet`
-
-pub rules-say : (end : ℕ) (st : State) (b : Bool) → b ≡ keepsRecordRules end st → b ≡ true → (st .position ≤ end) × (st .sense .key ≤ 15)
-unfolding keepsRecordRules
-rules-say end st b p e =
-    let x = split _ _ (sym p ∙ e) in
-    (leb-true _ _ (split _ _ (x .0) .0), leb-true _ _ (x .1))
 
 module _ (s : List ℕ) (st : State) (packet buf : List ℕ) (r : Outcome) where
   pub not-twelve : (length packet ≡ 12 → ⊥) → r ≡ refused st 1 → done r s buf ≡ packetStep s st packet buf

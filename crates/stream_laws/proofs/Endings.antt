@@ -1,43 +1,23 @@
--- How the work ends: the sense of each ending, its key and its residue.
+-- The sense of each ending of the work: its key and its residue.
 -- Assumes nothing.
-use Prim.Native.Nat.{ℕ, _+_, _-_, _≤_}
+use Prim.Native.Nat.{ℕ, _+_, _-_}
 use native.Mathlib.Omega.{arith}
-use mathlib.Core.Bool.{true, _&&_}
+use mathlib.Core.Bool.{_&&_}
 use mathlib.Core.Path.{_≡_, refl}
-use borrow.Author.Tests.{le-leb, leb-true, leb-false}
+use borrow.Author.Tests.{leb-false}
 use lib.Dec.{leb}
-use Rattle.numbers.specs.Member.{isIn}
 use Rattle.numbers.proofs.Cases.{either}
-use Rattle.numbers.proofs.RuleLaws.{split}
 use Rattle.image.specs.declared.header.Header.{Header}
 use Rattle.transfer.specs.declared.Moved.{Moved}
 use Rattle.transfer.specs.declared.Stop.{Stop}
 use Rattle.transfer.specs.declared.Stop.the-variants.{Full, AtFilemark, AtBadBlock, AtEnd, AtBeginning}
 use Rattle.transfer.proofs.EndLaws.{Ended}
 use Rattle.packet_state.specs.declared.state.Ending.{Ending}
-use Rattle.packet_state.specs.declared.state.Ending.the-variants.{Good, Check}
-use Rattle.packet_state.specs.declared.state.Sense.{Sense}
-use Rattle.packet_state.specs.declared.state.State.{State}
-use Rattle.packet_parts.specs.Answers.{answeredWith, ends, goodStatus, checkCondition}
 use Rattle.packet_parts.proofs.VerdictLaws.{Modest}
 use Rattle.stream_parts.specs.Replies.{pastWarning}
-use Rattle.packet_state.specs.Senses.{noSense}
-use Rattle.packet_state.specs.States.{speeds, highestKey, keepsRecordRules}
 use Rattle.stream.specs.Work.{endingOf, writeEnding}
-use Rattle.stream_laws.specs.Words.{residueOf}
-
-abbrev pub senseOf : Ending → Sense
-senseOf Good = noSense
-senseOf (Check x) = x
-
-abbrev pub statusFor : Ending → ℕ
-statusFor Good = goodStatus
-statusFor (Check x) = checkCondition
-
-pub ends-is : (st : State) (e : Ending) (blocks bytes : ℕ) → ends st e blocks bytes ≡ answeredWith st (statusFor e) (senseOf e) blocks bytes
-unfolding ends
-ends-is st Good blocks bytes = refl
-ends-is st (Check x) blocks bytes = refl
+use Rattle.packet_laws.specs.Words.{residueOf}
+use Rattle.packet_laws.proofs.Endings.{senseOf}
 
 -- ---- keys and information
 
@@ -77,21 +57,3 @@ write-residue h n m e =
     either Sums (leb 1 (m .left)) _ _ (λ p. omega arith) (λ p.
     let z = leb-false 1 (m .left) p in
     either Sums (leb 1 n && pastWarning h (m .place)) _ _ (λ q. omega arith) (λ q. omega arith))
-
--- ---- refusal 3's rules
-
-pub record Ruly (end : ℕ) (st : State) : Type 0 where
-  pub place : st .position ≤ end
-  pub speed : isIn (st .speed) speeds ≡ true
-  pub key : st .sense .key ≤ highestKey
-
-pub ruly-of : (end : ℕ) (st : State) → keepsRecordRules end st ≡ true → Ruly end st
-unfolding keepsRecordRules
-ruly-of end st e =
-    let p = split (leb (st .position) end && isIn (st .speed) speeds) (leb (st .sense .key) highestKey) e in
-    let r = split (leb (st .position) end) (isIn (st .speed) speeds) (p .0) in
-    record { place = leb-true _ _ (r .0); speed = r .1; key = leb-true _ _ (p .1) }
-
-pub of-ruly : (end : ℕ) (st : State) → Ruly end st → keepsRecordRules end st ≡ true
-unfolding keepsRecordRules
-of-ruly end st r = rw (le-leb _ _ (r .place), r .speed, le-leb _ _ (r .key))

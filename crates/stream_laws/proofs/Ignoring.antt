@@ -32,6 +32,7 @@ use Rattle.packet_parts.specs.Answers.{Left, done, notTwelveBytes, unrulyRecord
 use Rattle.stream_parts.specs.Checks.{askedBy}
 use Rattle.stream_parts.specs.Requests.{requestOf, magnitude, spaceCode}
 use Rattle.packet_state.specs.States.{keepsRecordRules}
+use Rattle.packet_state.proofs.RecordLaws.{ruly-of}
 use Rattle.packet_parts.specs.Requests.{packetLength}
 use Rattle.packet_parts.specs.Shell.{refuses, carriedOut, decided, answersTo}
 use Rattle.packet_parts.specs.Verdicts.{isProtected}
@@ -40,7 +41,6 @@ use Rattle.stream.specs.Packet.{streamDevice, packetStep}
 use Rattle.stream.specs.Work.{workOf, readWork, readEnds, spaceRun, spaceWork, writeWork, markWork, writeEnds}
 use Rattle.stream_laws.specs.Words.{AlikeBelowU}
 use Rattle.stream_laws.specs.Demands.{BeyondIgnored}
-use Rattle.stream_laws.proofs.Endings.{ruly-of}
 
 -- ---- runs, and U recorded after them
 

@@ -1,11 +1,11 @@
 -- What stays good and what stays untouched through an accepted packet.
 -- Assumes nothing.
 use mathlib.Core.Path.{sym, ap, _∙_}
+use Rattle.packet_state.proofs.RecordLaws.{of-ruly}
 use Rattle.image.specs.declared.header.Header.{Header}
 use Rattle.image.specs.Header.{fieldsOf, withRecorded}
 use Rattle.image.proofs.HeaderLaws.{fields-are, keeps-of}
 use Rattle.stream_laws.specs.Demands.{StaysGood, BeyondKept}
-use Rattle.stream_laws.proofs.Endings.{of-ruly}
 use Rattle.stream_laws.proofs.Leaving.{accepted-leaves}
 
 pub stays-good : StaysGood

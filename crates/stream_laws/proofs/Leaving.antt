@@ -1,20 +1,19 @@
 -- What an accepted packet leaves: one case split over the commands.
 -- Assumes nothing.
 use Prim.Native.Nat.{ℕ, _+_, _*_, _-_, _^_, _≤_, _<_, min}
-use native.Mathlib.Nat.{le-refl, mul-le-mul-left, mul-le-mul-right}
+use native.Mathlib.Nat.{le-refl, mul-le-mul-left}
 use native.Mathlib.Omega.{arith}
 use mathlib.Core.Bool.{Bool, true, false, not, _&&_, false≢true}
 use mathlib.Core.List.{List, _++_}
-use mathlib.Core.Logic.{inl, inr, ⊎-elim}
-use mathlib.Core.Path.{_≡_, refl, sym, ap, _∙_}
+use mathlib.Core.Logic.{inl}
+use mathlib.Core.Path.{_≡_, refl, sym, _∙_}
 use borrow.Author.Tests.{leb-true, ltb-false, eqb-true, not-false}
 use lib.Dec.{leb, ltb, eqb}
-use lib.ListN.{length, getD, length-take}
+use lib.ListN.{length, getD}
 use Rattle.numbers.specs.Choice.{if_then_else_}
 use Rattle.numbers.specs.Member.{isIn}
 use Rattle.numbers.proofs.Cases.{either}
 use Rattle.numbers.proofs.OverLaws.{over-length, over-above}
-use Rattle.numbers.proofs.RuleLaws.{split}
 use Rattle.image.specs.declared.header.Header.{Header}
 use Rattle.image.specs.declared.header.Judged.the-variants.{Good as GoodHeader}
 use Rattle.image.specs.Header.{fieldsOf, keepsHeaderRules, headerOf, withRecorded}
@@ -31,7 +30,7 @@ use Rattle.transfer.specs.Spacing.{blocksOn, blocksBack, marksOn, marksBack}
 use Rattle.transfer.specs.Writing.{Writing, blockOf, writeFrom, markOf, markFrom}
 use Rattle.transfer.proofs.ReadLaws.{read-run, read-left, read-place, read-length, copied, few-moved}
 use Rattle.transfer.proofs.WriteLaws.{lay-run, lay-left, lay-passed}
-use Rattle.transfer.proofs.LaidLaws.{Laid, Apart, marks-laid, blocks-laid}
+use Rattle.transfer.proofs.LaidLaws.{Laid, Apart, off-kinds, off-blocks, marks-laid, blocks-laid}
 use Rattle.transfer.proofs.SpaceLaws.{blocks-on-ended, blocks-on-place, blocks-back-ended, blocks-back-place, marks-on-ended, marks-on-place}
 use Rattle.transfer.proofs.SpaceLaws.{marks-back-ended, marks-back-place}
 use Rattle.packet_state.specs.declared.state.Ending.{Ending}
@@ -42,24 +41,28 @@ use Rattle.packet_state.specs.declared.state.State.{State}
 use Rattle.packet_parts.specs.declared.requests.Request.{Request}
 use Rattle.packet_parts.specs.Answers.{Left, done, ends, endsBefore}
 use Rattle.stream_parts.specs.Checks.{askedBy}
-use Rattle.packet_parts.specs.Replies.{senseBytes, devicePage, devicePageLength, shortList, fullList, modeHeader, firstOf, replyEnds, repliedInto}
+use Rattle.packet_parts.specs.Replies.{senseBytes, shortList, fullList, modeHeader, firstOf, replyEnds, repliedInto}
 use Rattle.packet_parts.specs.Requests.{loadBit}
 use Rattle.packet_parts.specs.Shell.{carriedOut}
 use Rattle.packet_work.specs.Moving.{moves}
 use Rattle.packet_work.specs.Replies.{replyWork}
 use Rattle.packet_work.specs.Settings.{listSpeed, goodList, speedWork, loadWork}
+use Rattle.packet_work.proofs.SettingLaws.{good-speed}
 use Rattle.packet_parts.proofs.VerdictLaws.{Modest}
 use Rattle.stream_parts.specs.Replies.{positionLength, streamInquiry, modeBytes, positionBytes, modeLength, hasPage, modePage}
 use Rattle.stream.specs.Packet.{streamDevice, packetStep}
 use Rattle.stream_parts.specs.Requests.{requestOf, spaceCode, isBack, overBlocks, toEndOfData, magnitude}
 use Rattle.packet_state.specs.Senses.{wrongList, beyondData}
 use Rattle.packet_state.specs.States.{speeds, keepsRecordRules, atPlace, withSpeed}
+use Rattle.packet_state.proofs.RecordLaws.{Ruly, ruly-of}
 use Rattle.stream.specs.Work.{endingOf, readEnds, readWork, writeEnding, writeEnds, writeWork, markWork, spaceRun, spaceWork}
 use Rattle.stream.specs.Work.{selectWork, locateWork, workOf}
-use Rattle.packet_laws.specs.Words.{numberOf, blocksOf, bytesOf}
+use Rattle.packet_laws.specs.Words.{numberOf, blocksOf, bytesOf, gives}
+use Rattle.packet_laws.proofs.Endings.{senseOf, ends-is}
+use Rattle.packet_laws.proofs.Replies.{first-length}
 use Rattle.packet_laws.proofs.Ways.{Way, cut, broken, unruly, short, ends-early, works, way}
-use Rattle.stream_laws.specs.Words.{storesOn, stores, gives, Untouched}
-use Rattle.stream_laws.proofs.Endings.{senseOf, ends-is, ending-modest, write-modest, Ruly, ruly-of}
+use Rattle.stream_laws.specs.Words.{storesOn, stores, Untouched}
+use Rattle.stream_laws.proofs.Endings.{ending-modest, write-modest}
 
 -- the outcome of a packet that is not refused: the record it leaves is in rule, and its numbers go by what was asked for
 pub record Accepted (h : Header) (q : Request) (x : Outcome) : Type 0 where
@@ -143,10 +146,6 @@ module _ (s : List ℕ) (st : State) (q : Request) (buf : List ℕ) (good : keep
       stays storing giving (endsBefore st x) buf
       (record { number = refl; ruly = k; information = omega arith; blocks = omega arith; bytes = omega arith }) refl (λ i l. refl) (λ f. refl) (λ f. refl)
 
-  first-length : (bytes : List ℕ) (asked : ℕ) → length (firstOf bytes asked) ≡ min asked (length bytes)
-  unfolding firstOf
-  first-length bytes asked = rw length-take (omega arith)
-
   replies : (bytes : List ℕ) (asked : ℕ) → asked ≤ q .length + positionLength → min asked (length bytes) ≤ length buf
       → Leaves s st q buf false true (replyWork bytes asked st s buf)
   unfolding replyEnds
@@ -218,10 +217,6 @@ module _ (s : List ℕ) (st : State) (q : Request) (buf : List ℕ) (good : keep
       quiet (atPlace st (m .place)) (endingOf (m .stop) (m .left)) 0 (r .0) (kept-rules .speed)
       (omega (arith, r .1, far-most, ending-modest (m .stop) (m .left))))
 
-  good-speed : goodList buf ≡ true → isIn (listSpeed buf) speeds ≡ true
-  unfolding goodList
-  good-speed e = split (eqb (getD buf shortList 0) devicePage && eqb (getD buf (shortList + 1) 0) devicePageLength) (isIn (listSpeed buf) speeds) e .1
-
   selects : Leaves s st q buf false false (done (selectWork st (q .length) buf) s buf)
   unfolding selectWork speedWork
   selects =
@@ -231,7 +226,7 @@ module _ (s : List ℕ) (st : State) (q : Request) (buf : List ℕ) (good : keep
       either LeavesOnly (not (goodList buf)) _ _ (λ f. quiet st (Check wrongList) 0 (kept-rules .place) (kept-rules .speed) (omega arith))
       (λ f.
       let full : q .length ≡ fullList = eqb-true (q .length) fullList (not-false _ e) in
-      quiet (withSpeed st (listSpeed buf)) Good fullList (kept-rules .place) (good-speed (not-false _ f)) (omega arith)))
+      quiet (withSpeed st (listSpeed buf)) Good fullList (kept-rules .place) (good-speed buf (not-false _ f)) (omega arith)))
 
   loads : (load : Bool) → Leaves s st q buf false false (done (loadWork st load) s buf)
   unfolding loadWork
@@ -285,17 +280,15 @@ module _ (s : List ℕ) (st : State) (q : Request) (buf : List ℕ) (good : keep
         no-gift = λ f. refl;
         untouched = λ m o. record-apart (X .image) p place m (o .not-recorded) ∙ w .apart m (a m (rw ends-is at (o .not-kind)) (rw ends-is at (o .not-block)));
         below = λ j b.
+            let c : j < h .capacity = omega arith in
+            let k = w .others j c (inl b) in
             record {
-              kind = record-kind (X .image) h (w .header) p place g j ∙ w .kinds j b;
-              bytes = record-bytes (X .image) h (w .header) p place g j (omega arith) ∙ w .bytes j b;
+              kind = record-kind (X .image) h (w .header) p place g j ∙ k .kind;
+              bytes = record-bytes (X .image) h (w .header) p place g j c ∙ k .bytes;
             };
         none-stored = λ z. let y = rw ends-is at z in record-none (X .image) p place (omega arith) ∙ w .none (omega arith);
         no-store = λ z. absurd (false≢true (sym z));
       }
-
-  apart-kind : (left place m : ℕ) → place + left ≡ p + n → left ≤ n → Outside (h .kinds + p) (n - left) m
-      → (i : ℕ) → p ≤ i → i < place → m ≡ h .kinds + i → ⊥
-  apart-kind left place m t l o i a b e = ⊎-elim (λ z. omega arith) (λ z. omega arith) o
 
   writes : n * h .size ≤ length buf → Leaves s st q buf true false (writeWork s h st n buf)
   unfolding writeWork
@@ -306,14 +299,7 @@ module _ (s : List ℕ) (st : State) (q : Request) (buf : List ℕ) (good : keep
       let run = lay-run (blockOf (h .size) (h .kinds) (h .blocks) buf) (h .size) (h .capacity) n 0 p s in
       stored (Apart h) (h .size) X (le-refl (h .size)) less passed
       (blocks-laid h (h .capacity) (le-refl (h .capacity)) buf run (good-header s good) within (omega arith))
-      (λ m k b i x y.
-      let z = mul-le-mul-right (h .size) x in
-      let w = mul-le-mul-right (h .size) y in
-      let v : X .moved .place ≡ p + (n - X .moved .left) = omega arith in
-      let v' : X .moved .place * h .size ≡ p * h .size + (n - X .moved .left) * h .size = ap (λ (a : ℕ). a * h .size) v ∙ omega arith in (
-        apart-kind (X .moved .left) (X .moved .place) m passed less k i x y,
-        ⊎-elim (λ c. inl (omega arith)) (λ c. inr (omega arith)) b,
-      ))
+      (λ m k b i x y. (off-kinds h p _ _ m (omega arith) k i x y, off-blocks h p _ _ m (omega arith) b i x y))
 
   marks : Leaves s st q buf true false (markWork s h st n buf)
   unfolding markWork
@@ -323,7 +309,7 @@ module _ (s : List ℕ) (st : State) (q : Request) (buf : List ℕ) (good : keep
       let passed = lay-passed (markOf (h .kinds)) 0 (h .capacity) n 0 p s in
       stored (OffKind h) 0 X (omega arith) less passed
       (marks-laid h (h .capacity) (le-refl (h .capacity)) (lay-run (markOf (h .kinds)) 0 (h .capacity) n 0 p s) (good-header s good) within)
-      (λ m k b i x y. apart-kind (X .moved .left) (X .moved .place) m passed less k i x y)
+      (λ m k b i x y. off-kinds h p _ _ m (omega arith) k i x y)
 
   -- ---- by command
 

@@ -1,7 +1,6 @@
 -- A written block reads back the same until something is stored at or before its place.
 -- Assumes nothing.
 use Prim.Native.Nat.{ℕ, suc, _+_, _*_, _-_, _≤_, _<_}
-use native.Mathlib.Nat.{zero-add}
 use native.Mathlib.Omega.{arith}
 use mathlib.Core.List.{List}
 use mathlib.Core.Path.{_≡_, sym, ap, _∙_}
@@ -17,8 +16,10 @@ use Rattle.image.specs.Header.{fieldsOf, headerOf, withRecorded}
 use Rattle.image.proofs.HeaderLaws.{fields-are, good-header, is-block, sound}
 use Rattle.opcodes.specs.declared.Command.the-variants.{Read}
 use Rattle.transfer.specs.Reading.{readFrom}
-use Rattle.transfer.proofs.ReadLaws.{read-run, read-left, read-block, data-moved, read-first}
+use Rattle.transfer.proofs.BlockLaws.{moved-blocks}
+use Rattle.transfer.proofs.ReadLaws.{read-left, read-first}
 use Rattle.packet_state.specs.declared.state.State.{State}
+use Rattle.packet_state.proofs.RecordLaws.{ruly-of}
 use Rattle.packet_parts.specs.declared.requests.Request.{Request}
 use Rattle.packet_parts.specs.Answers.{Left}
 use Rattle.stream_parts.specs.Checks.{askedBy}
@@ -26,11 +27,11 @@ use Rattle.stream.specs.Packet.{streamDevice, packetStep}
 use Rattle.stream_parts.specs.Requests.{requestOf}
 use Rattle.stream.specs.Work.{workOf, readWork, readEnds}
 use Rattle.packet_laws.specs.Words.{numberOf, blocksOf}
+use Rattle.packet_laws.proofs.Endings.{ends-is}
 use Rattle.packet_laws.proofs.Refusals.{begins-passes}
 use Rattle.stream_laws.specs.Words.{stores, IsRecorded}
 use Rattle.stream_laws.specs.History.{StoresUpTo, Later, at-once, asked, replaced}
 use Rattle.stream_laws.specs.Demands.{ReadsBack, ReadGives, ReadMoves}
-use Rattle.stream_laws.proofs.Endings.{ends-is, ruly-of}
 use Rattle.stream_laws.proofs.Leaving.{accepted-leaves}
 use Rattle.stream_laws.proofs.Refusals.{refused-keeps}
 use Rattle.stream_laws.proofs.Storing.{blocks-stored}
@@ -93,12 +94,8 @@ module _ (s : List ℕ) (st : State) (q : Request) (buf : List ℕ) (good : head
   copied-whole k l =
       let n = q .count in
       let less = read-left s (h .size) (h .kinds) (h .blocks) (h .recorded) n 0 (st .position) buf in
-      let g = sound s h good in
       let m : k + readFrom s (h .size) (h .kinds) (h .blocks) (h .recorded) n 0 (st .position) buf .moved .left < n = omega (arith, rw ends-is at l) in
-      let run = read-run s (h .size) (h .kinds) (h .blocks) (h .recorded) n 0 (st .position) buf in
-      let d = data-moved s (h .size) (h .kinds) (h .blocks) (h .recorded) run k m in
-      let z = read-block s (h .size) (h .kinds) (h .blocks) (h .recorded) n 0 (st .position) buf (omega arith) (g .recorded-blocks) k m in
-      is-block _ s h (st .position + k) _ good (d .0) (d .1) (sym (rw zero-add at z))
+      moved-blocks s h good (h .recorded) (sound s h good .recorded-within) n (st .position) buf room k m
 
 pub read-gives : ReadGives
 unfolding workOf askedBy

@@ -26,10 +26,10 @@ use Rattle.packet_state.specs.declared.state.State.{State}
 use Rattle.packet_state.specs.Senses.{volumeOverflow}
 use Rattle.packet_state.specs.States.{atPlace, withSense}
 use Rattle.packet_parts.specs.Answers.{Left}
-use Rattle.packet_laws.specs.Words.{statusOf, blocksOf, bytesOf}
+use Rattle.packet_laws.specs.Words.{statusOf, blocksOf, bytesOf, gives}
 use Rattle.stream_parts.specs.Requests.{requestOf}
 use Rattle.stream.specs.Packet.{packetStep}
-use Rattle.stream_laws.specs.Words.{BeginsWork, Moves, by-read, by-write, by-filemarks, storesOn, stores, gives}
+use Rattle.stream_laws.specs.Words.{BeginsWork, Moves, by-read, by-write, by-filemarks, storesOn, stores}
 use Rattle.stream_laws.specs.Words.{IsRecorded, IsElement, AlikeBelowU, CountsData, GoodRead, GoodWrite, SameBelowU}
 use Rattle.stream_laws.specs.Words.{ReadWay, all-copied, met-filemark, met-bad-block, met-end, ReadEnds}
 use Rattle.stream_laws.specs.Words.{WriteWay, all-stored, past-warning, met-capacity}

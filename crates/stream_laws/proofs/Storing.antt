@@ -22,16 +22,17 @@ use Rattle.transfer.specs.Writing.{blockOf, writeFrom, markOf, markFrom}
 use Rattle.transfer.proofs.LaidLaws.{marks-laid, marks-read-back, blocks-laid, blocks-read-back}
 use Rattle.transfer.proofs.WriteLaws.{lay-run, lay-left, lay-passed}
 use Rattle.packet_state.specs.declared.state.State.{State}
+use Rattle.packet_state.proofs.RecordLaws.{ruly-of}
 use Rattle.packet_parts.specs.declared.requests.Request.{Request}
 use Rattle.stream_parts.specs.Checks.{askedBy}
 use Rattle.stream_parts.specs.Requests.{requestOf}
 use Rattle.stream.specs.Packet.{streamDevice, packetStep}
 use Rattle.stream.specs.Work.{workOf, writeWork, writeEnds, markWork}
 use Rattle.packet_laws.specs.Words.{numberOf, blocksOf}
+use Rattle.packet_laws.proofs.Endings.{ends-is}
 use Rattle.packet_laws.proofs.Refusals.{begins-passes}
 use Rattle.stream_laws.specs.Words.{IsRecorded, IsElement}
 use Rattle.stream_laws.specs.Demands.{BlocksStored, MarksStored, NoneStored}
-use Rattle.stream_laws.proofs.Endings.{ends-is, ruly-of}
 use Rattle.stream_laws.proofs.Leaving.{accepted-leaves}
 use Rattle.stream_laws.proofs.Refusals.{refused-keeps}
 use Rattle.stream_laws.proofs.Working.{step-is, room-is}

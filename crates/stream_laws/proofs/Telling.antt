@@ -23,7 +23,9 @@ use Rattle.packet_state.specs.declared.state.Sense.{Sense}
 use Rattle.packet_state.specs.declared.state.State.{State}
 use Rattle.packet_state.specs.Senses.{earlyWarning}
 use Rattle.packet_state.specs.States.{atPlace, withSense}
+use Rattle.packet_state.proofs.RecordLaws.{ruly-of}
 use Rattle.packet_parts.specs.declared.requests.Request.{Request}
+use Rattle.packet_laws.proofs.Endings.{senseOf, statusFor, ends-is}
 use Rattle.packet_laws.proofs.Refusals.{begins-passes, begins-work}
 use Rattle.stream_parts.specs.Requests.{requestOf}
 use Rattle.stream.specs.Packet.{streamDevice}
@@ -32,7 +34,6 @@ use Rattle.stream_laws.specs.Words.{Moves, by-read, by-write, by-filemar
 use Rattle.stream_laws.specs.Words.{ReadWay, all-copied, met-filemark, met-bad-block, met-end, ReadEnds}
 use Rattle.stream_laws.specs.Words.{WriteWay, all-stored, past-warning, met-capacity, WriteEnds}
 use Rattle.stream_laws.specs.Demands.{ReadTellsWhy, WriteTellsWhy, ReadStands, WriteStands, BytesAreBlocks, RecordKept}
-use Rattle.stream_laws.proofs.Endings.{senseOf, statusFor, ends-is, ruly-of}
 use Rattle.stream_laws.proofs.Working.{step-is, by-store}
 
 -- ---- the way of each run

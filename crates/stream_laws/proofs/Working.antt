@@ -13,15 +13,16 @@ use Rattle.transfer.proofs.ReadLaws.{read-ended}
 use Rattle.transfer.proofs.WriteLaws.{lay-ended}
 use Rattle.packet_state.specs.declared.state.State.{State}
 use Rattle.packet_parts.specs.declared.requests.Request.{Request}
-use Rattle.packet_laws.specs.Words.{blocksOf}
+use Rattle.packet_laws.specs.Words.{blocksOf, residueOf}
+use Rattle.packet_laws.proofs.Endings.{ends-is}
 use Rattle.packet_laws.proofs.Refusals.{begins-room, begins-work}
 use Rattle.stream_parts.specs.Checks.{askedBy}
 use Rattle.stream_parts.specs.Requests.{requestOf}
 use Rattle.stream.specs.Packet.{streamDevice, packetStep}
 use Rattle.stream.specs.Work.{workOf, readWork, readEnds, writeWork, writeEnds, markWork}
-use Rattle.stream_laws.specs.Words.{residueOf, BeginsWork, Moves, by-read, by-write, by-filemarks, storesOn}
+use Rattle.stream_laws.specs.Words.{BeginsWork, Moves, by-read, by-write, by-filemarks, storesOn}
 use Rattle.stream_laws.specs.Demands.{MovedPlusResidue}
-use Rattle.stream_laws.proofs.Endings.{ends-is, read-residue, write-residue}
+use Rattle.stream_laws.proofs.Endings.{read-residue, write-residue}
 
 module _ (s : List ℕ) (st : State) (packet buf : List ℕ) (b : BeginsWork s st packet buf) where
   -- the packet's outcome under its command

@@ -15,14 +15,15 @@ use Rattle.packet_state.specs.declared.state.State.{State}
 use Rattle.packet_state.specs.Senses.{unreadableBlock}
 use Rattle.packet_state.specs.States.{keepsRecordRules, atPlace, withSense}
 use Rattle.packet_parts.specs.Answers.{Left}
+use Rattle.packet_laws.specs.Plates.{standing, sent}
 use Rattle.packet_laws.specs.Promises.{CutPacket as CutPacketOf, RefusedKeeps as RefusedKeepsOf, NumberExactly as NumberExactlyOf}
 use Rattle.packet_laws.specs.Promises.{BeginsExactly as BeginsExactlyOf}
-use Rattle.packet_laws.specs.Words.{numberOf, blocksOf, bytesOf}
+use Rattle.packet_laws.specs.Words.{numberOf, blocksOf, bytesOf, residueOf}
 use Rattle.stream_parts.specs.Requests.{requestOf}
 use Rattle.stream.specs.Packet.{FreshPromise, ChangedPromise, PacketPromise, streamDevice, packetStep}
 use Rattle.stream_laws.specs.History.{Later}
-use Rattle.stream_laws.specs.Plates.{unreadableAtTwo, standing, sent, readTwo, allAgree, plates, BeginsAndMoves}
-use Rattle.stream_laws.specs.Words.{residueOf, BeginsWork, Moves, stores, IsRecorded, IsElement, EveryReadGives, Kept, AlikeBelowU}
+use Rattle.stream_laws.specs.Plates.{unreadableAtTwo, readTwo, allAgree, plates, BeginsAndMoves}
+use Rattle.stream_laws.specs.Words.{BeginsWork, Moves, stores, IsRecorded, IsElement, EveryReadGives, Kept, AlikeBelowU}
 use Rattle.stream_laws.specs.Words.{ReadEnds, WriteEnds, passedBeside, GoodRead, BlocksGood, MarksGood, SameBelowU}
 
 -- What every packet device promises: "1: packet is not 12 bytes", whatever the image, the record and the buffer; nothing changes.

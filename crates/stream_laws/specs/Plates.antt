@@ -1,44 +1,26 @@
 -- 01, "Plates that must print alike": those of the packet drive that are proved together as one table.
 -- Assumes nothing.
 use Prim.Native.Nat.{ℕ, _≤_}
-use mathlib.Core.Bool.{Bool, true, false, _&&_}
-use mathlib.Core.List.{List, [], _∷_, _++_}
+use mathlib.Core.Bool.{Bool, true, _&&_}
+use mathlib.Core.List.{List, [], _∷_}
 use lib.ListN.{replicate, set}
 use Rattle.numbers.specs.Choice.{_≡ᵇ_}
-use Rattle.numbers.specs.Counts.{countBytes}
 use Rattle.image.specs.Header.{fieldsOf}
-use Rattle.packet_state.specs.declared.state.Attention.the-variants.{Nothing}
 use Rattle.packet_state.specs.declared.state.State.{State}
 use Rattle.packet_parts.specs.Answers.{Left}
 use Rattle.stream.specs.Packet.{packetStep}
-use Rattle.packet_state.specs.States.{atPlace, withAttention, freshState}
 use Rattle.packet_parts.specs.Replies.{senseBytes}
+use Rattle.packet_laws.specs.Plates.{plateImage, standing, sent, senseOf, same}
 use Rattle.packet_laws.specs.Words.{blocksOf}
 use Rattle.stream_laws.specs.Words.{BeginsWork}
 
 -- "Image C 4, B 512, W 0, kinds 1 2 1, U 3", here with any W
 abbrev pub image : ℕ → List ℕ
-image w =
-    countBytes 2 32  -- header length
-    ++ (countBytes 2 512  -- B
-    ++ (countBytes 4 4  -- C
-    ++ (countBytes 4 3  -- U
-    ++ (countBytes 4 32  -- K
-    ++ (countBytes 4 36  -- D
-    ++ (0 ∷ 0 ∷ (countBytes 2 w  -- not protected, medium 0, W
-    ++ (replicate 8 0 ++ (1 ∷ 2 ∷ 1 ∷ 0 ∷ replicate 2048 7)))))))))
+image w = plateImage w 3 (1 ∷ 2 ∷ 1 ∷ 0 ∷ [])
 
 -- the same with W 0 and a kind of element 2 that is neither 1 nor 2
 abbrev pub unreadableAtTwo : List ℕ
 unreadableAtTwo = set (image 0) 34 7
-
--- "attention cleared", at place p
-abbrev pub standing : ℕ → State
-standing p = withAttention (atPlace freshState p) Nothing
-
--- a packet of these first seven bytes
-abbrev pub sent : ℕ → ℕ → ℕ → ℕ → ℕ → ℕ → ℕ → List ℕ
-sent a b c d e f g = a ∷ b ∷ c ∷ d ∷ e ∷ f ∷ g ∷ 0 ∷ 0 ∷ 0 ∷ 0 ∷ 0 ∷ []
 
 -- READ 2, and the record after it was sent at 0
 abbrev pub readTwo : List ℕ
@@ -46,10 +28,6 @@ readTwo = sent 0x08 1 0 0 2 0 0
 
 abbrev pub afterReadTwo : State
 afterReadTwo = packetStep (image 0) (standing 0) readTwo (replicate 1024 9) .state
-
--- the 20 bytes of 03h by those that are not 0: byte 0, byte 2, information, ASC, ASCQ
-abbrev pub senseOf : ℕ → ℕ → ℕ → ℕ → ℕ → List ℕ
-senseOf first key information asc ascq = first ∷ 0 ∷ key ∷ 0 ∷ 0 ∷ 0 ∷ information ∷ 0x0c ∷ 0 ∷ 0 ∷ 0 ∷ 0 ∷ asc ∷ ascq ∷ replicate 6 0
 
 -- what is sent, and what must come: blocks, P, U and the bytes that 03h would give
 pub record Plate : Type 0 where
@@ -66,13 +44,6 @@ infix 80 W_from_send_blocks_P_U_sense_
 abbrev pub W_from_send_blocks_P_U_sense_ : ℕ → State → List ℕ → ℕ → ℕ → ℕ → List ℕ → Plate
 W w from st send packet blocks n P p U u sense x =
     record { warning = w; before = st; packet = packet; blocks = n; place = p; recorded = u; sense = x }
-
--- the same numbers in the same order
-abbrev pub same : List ℕ → List ℕ → Bool
-same [] [] = true
-same [] (y ∷ ys) = false
-same (x ∷ xs) [] = false
-same (x ∷ xs) (y ∷ ys) = (x ≡ᵇ y) && same xs ys
 
 -- what came is what the plate says
 abbrev pub agrees : Plate → Left State → Bool

@@ -21,13 +21,9 @@ use Rattle.packet_state.specs.declared.state.State.{State}
 use Rattle.packet_state.specs.Senses.{noSense, filemarkDetected, unreadableBlock, endOfData, volumeOverflow, earlyWarning}
 use Rattle.packet_state.specs.States.{atPlace, withSense}
 use Rattle.packet_parts.specs.Answers.{Left, goodStatus, checkCondition}
-use Rattle.packet_laws.specs.Words.{numberOf, statusOf, blocksOf, bytesOf, Begins}
+use Rattle.packet_laws.specs.Words.{numberOf, statusOf, blocksOf, bytesOf, gives, Begins}
 use Rattle.stream_parts.specs.Requests.{requestOf}
 use Rattle.stream.specs.Packet.{streamDevice, packetStep}
-
--- the information where the sense is valid, else 0
-abbrev pub residueOf : Sense → ℕ
-residueOf x = if x .valid then x .information else 0
 
 -- ---- the work
 
@@ -60,23 +56,6 @@ storesOn ReadPosition = false
 
 abbrev pub stores : List ℕ → Bool
 stores packet = storesOn (requestOf packet .command)
-
--- the commands that give bytes: 03h, 08h, 12h, 1Ah, 34h
-abbrev pub gives : Command → Bool
-gives Unknown = false
-gives TestUnitReady = false
-gives Rewind = false
-gives RequestSense = true
-gives Read = true
-gives Write = false
-gives WriteFilemarks = false
-gives Space = false
-gives Inquiry = true
-gives ModeSelect = false
-gives ModeSense = true
-gives LoadUnload = false
-gives Locate = false
-gives ReadPosition = true
 
 -- ---- elements of an image
 

@@ -1,10 +1,11 @@
 -- What a run of laid elements leaves, for any end up to the capacity: one header, elements and bytes outside stay, and laid blocks read back.
 -- Assumes nothing.
 use Prim.Native.Nat.{ℕ, zero, suc, _+_, _*_, _≤_, _<_}
-use native.Mathlib.Nat.{le-refl}
+use native.Mathlib.Nat.{le-refl, mul-le-mul-right}
 use native.Mathlib.Omega.{arith}
 use mathlib.Core.List.{List}
-use mathlib.Core.Path.{_≡_, refl, _∙_}
+use mathlib.Core.Logic.{_⊎_, inl, inr, ⊎-elim}
+use mathlib.Core.Path.{_≡_, refl, ap, _∙_}
 use lib.ListN.{length, getD}
 use Rattle.numbers.specs.Over.{part}
 use Rattle.numbers.proofs.OverLaws.{part-length}
@@ -13,6 +14,7 @@ use Rattle.image.specs.declared.header.Header.{Header}
 use Rattle.image.specs.declared.header.Judged.the-variants.{Good}
 use Rattle.image.specs.Elements.{kindAt, blockAt}
 use Rattle.image.specs.Header.{headerOf}
+use Rattle.image.specs.Sameness.{SameElement, Outside}
 use Rattle.image.proofs.StoreLaws.{OneLaid, OffKind, OffBlock, mark-laid, mark-here, block-laid, block-kind, block-here}
 use Rattle.transfer.specs.declared.Stop.{Stop}
 use Rattle.transfer.specs.Moving.{halts}
@@ -25,8 +27,7 @@ pub record Laid (h : Header) (Apart : ℕ → ℕ → Type 0) (p : ℕ) (s : Lis
   pub onward : p ≤ X .moved .place
   pub reached : X .moved .place ≤ h .capacity
   pub size : length (X .image) ≡ length s
-  pub kinds : (j : ℕ) → j < p → kindAt (X .image) (h .kinds) j ≡ kindAt s (h .kinds) j
-  pub bytes : (j : ℕ) → j < p → blockAt (X .image) (h .size) (h .blocks) j ≡ blockAt s (h .size) (h .blocks) j
+  pub others : (j : ℕ) → j < h .capacity → (j < p) ⊎ (X .moved .place ≤ j) → SameElement h s (X .image) j
   pub apart : (m : ℕ) → ((i : ℕ) → p ≤ i → i < X .moved .place → Apart i m) → getD (X .image) m 0 ≡ getD s m 0
   pub none : X .moved .place ≡ p → X .image ≡ s
 
@@ -40,8 +41,7 @@ module _ (h : Header) (Apart : ℕ → ℕ → Type 0) (lay : ℕ → ℕ → Li
         onward = le-refl p;
         reached = l;
         size = refl;
-        kinds = λ j h. refl;
-        bytes = λ j h. refl;
+        others = λ j c e. record { kind = refl; bytes = refl };
         apart = λ m a. refl;
         none = λ e. refl;
       }
@@ -54,8 +54,10 @@ module _ (h : Header) (Apart : ℕ → ℕ → Type 0) (lay : ℕ → ℕ → Li
         onward = omega arith;
         reached = w .reached;
         size = w .size ∙ o .size;
-        kinds = λ j l. w .kinds j (omega arith) ∙ o .kinds j (omega arith) (λ e. omega arith);
-        bytes = λ j l. w .bytes j (omega arith) ∙ o .bytes j (omega arith) (λ e. omega arith);
+        others = λ j c e.
+            let n : j ≡ p → ⊥ = ⊎-elim (λ l q. omega arith) (λ l q. omega arith) e in
+            let k = w .others j c (⊎-elim (λ l. inl (omega arith)) (λ l. inr l) e) in
+            record { kind = k .kind ∙ o .kinds j c n; bytes = k .bytes ∙ o .bytes j c n };
         apart = λ m a. w .apart m (λ i b c. a i (omega arith) c) ∙ o .apart m (a p (le-refl p) (omega arith));
         none = λ e. absurd (omega arith);
       }
@@ -71,6 +73,18 @@ module _ (h : Header) (Apart : ℕ → ℕ → Type 0) (lay : ℕ → ℕ → Li
 -- a byte that is neither the element's kind nor of its block
 abbrev pub Apart : Header → ℕ → ℕ → Type 0
 Apart h i m = OffKind h i m × OffBlock h i m
+
+-- a byte outside the kinds of the k elements from place p on is off each of them; so is one outside their blocks
+module _ (h : Header) (p place k m : ℕ) (e : place ≡ p + k) where
+  pub off-kinds : Outside (h .kinds + p) k m → (i : ℕ) → p ≤ i → i < place → OffKind h i m
+  off-kinds o i a b q = ⊎-elim (λ z. omega arith) (λ z. omega arith) o
+
+  pub off-blocks : Outside (h .blocks + p * h .size) (k * h .size) m → (i : ℕ) → p ≤ i → i < place → OffBlock h i m
+  off-blocks o i a b =
+      let x = mul-le-mul-right (h .size) a in
+      let y = mul-le-mul-right (h .size) b in
+      let z : place * h .size ≡ p * h .size + k * h .size = ap (λ (n : ℕ). n * h .size) e ∙ omega arith in
+      ⊎-elim (λ c. inl (omega arith)) (λ c. inr (omega arith)) o
 
 -- the block of src at offset off
 pub block-of : (h : Header) (src : List ℕ) (off p : ℕ) (s : List ℕ) → headerOf s ≡ Good h → p < h .capacity → off + h .size ≤ length src
@@ -91,7 +105,7 @@ module _ (h : Header) (end : ℕ) (inside : end ≤ h .capacity) where
       let c : p < h .capacity = omega arith in
       let w = marks-laid r (mark-laid s h g p c .header) (omega arith) in
       let y : p + 0 ≡ p = omega arith in
-      rw y (w .kinds p (omega arith) ∙ mark-here s h g p c)
+      rw y (w .others p c (inl (omega arith)) .kind ∙ mark-here s h g p c)
   marks-read-back (LayRun.lays n off p s X e r) g (suc j) f =
       let y : p + suc j ≡ p + 1 + j = omega arith in
       rw y (marks-read-back r (mark-laid s h g p (omega arith) .header) j (omega arith))
@@ -116,7 +130,9 @@ module _ (h : Header) (end : ℕ) (inside : end ≤ h .capacity) where
         let whole = part-length src off (h .size) (omega arith) in
         let x : off + 0 * h .size ≡ off = omega arith in
         let y : p + 0 ≡ p = omega arith in
-        rw (x, y) (w .kinds p (omega arith) ∙ block-kind s h g p (omega arith) new whole, w .bytes p (omega arith) ∙ block-here s h g p (omega arith) new whole)
+        let c : p < h .capacity = omega arith in
+        let k = w .others p c (inl (omega arith)) in
+        rw (x, y) (k .kind ∙ block-kind s h g p c new whole, k .bytes ∙ block-here s h g p c new whole)
     blocks-read-back (LayRun.lays n off p s X e r) g b (suc j) f =
         let x : off + suc j * h .size ≡ off + h .size + j * h .size = omega arith in
         let y : p + suc j ≡ p + 1 + j = omega arith in

@@ -1,3 +1,4 @@
+pub mod BlockLaws
 pub mod ReadLaws
 pub mod WriteLaws
 pub mod SpaceLaws

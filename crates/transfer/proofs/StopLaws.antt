@@ -69,8 +69,16 @@ module _ (end : ℕ) where
   lays-more n p m (all-laid z w b) = all-laid z (omega arith) (omega arith)
   lays-more n p m (at-end k l e w b) = at-end (suc k) l (omega arith) (omega arith) (omega arith)
 
+  stands-within : {p n : ℕ} {m : Moved} → LayStops p n m → m .place ≤ end
+  stands-within (all-laid z w b) = omega arith
+  stands-within (at-end k l e w b) = omega arith
+
   module _ (lay : ℕ → ℕ → List ℕ → List ℕ) (size : ℕ) where
     pub lay-stops : {n off p : ℕ} {s : List ℕ} {X : Writing} → LayRun lay size end n off p s X → p ≤ end → LayStops p n (X .moved)
     lay-stops (LayRun.full off p s) l = all-laid refl (omega arith) (omega arith)
     lay-stops (LayRun.at-end n off p s h) l = at-end 0 (omega arith) (omega arith) (omega arith) (omega arith)
     lay-stops (LayRun.lays n off p s X h r) l = lays-more n p (X .moved) (lay-stops r (omega arith))
+
+    -- and it never stands beyond the end
+    pub lay-within : {n off p : ℕ} {s : List ℕ} {X : Writing} → LayRun lay size end n off p s X → p ≤ end → X .moved .place ≤ end
+    lay-within r l = stands-within (lay-stops r l)

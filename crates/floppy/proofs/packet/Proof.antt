@@ -2,7 +2,8 @@
 -- Assumes nothing.
 use mathlib.Core.Path.{sym, _∙_}
 use Rattle.floppy_parts.proofs.FullLaws.{full-header}
-use Rattle.floppy.proofs.PacketLaws.{rules-say, not-twelve, no-header, no-record, went-on}
+use Rattle.floppy_parts.proofs.RuledLaws.{ruled-of}
+use Rattle.floppy.proofs.PacketLaws.{not-twelve, no-header, no-record, went-on}
 use borrow.Author.Needs.{needs}
 use Rattle.floppy.proofs.packet.Statement.{statement}
 use Rattle.floppy.proofs.packet.Tie as tie
@@ -45,12 +46,12 @@ floppy-request-requires c κs = search needs
 
 decide-requires : tie.Need-decide-requires
 decide-requires c κs =
-    let r = rules-say _ _ _ (c .before .before .before .before .keeps-floppy-rules .ensures) (c .before .before .before .if2 .taken) in
+    let r = ruled-of _ _ (sym (c .before .before .before .before .keeps-floppy-rules .ensures) ∙ c .before .before .before .if2 .taken) in
     record {
       header = full-header _ _ (sym (c .before .before .before .before .before .before .before .before .full-header-of .ensures) ∙ c .before .before .before .before .before .before .h .given .1);
-      within = r .0;
-      place = r .1;
-      key = r .2;
+      within = r .within;
+      place = r .place;
+      key = r .key;
     }
 
 same-length-2 : tie.Need-same-length-2

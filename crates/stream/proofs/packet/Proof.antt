@@ -1,7 +1,8 @@
 -- `packet` meets its contract.
 -- Assumes nothing.
 use mathlib.Core.Path.{sym, _∙_}
-use Rattle.stream.proofs.PacketLaws.{rules-say, not-twelve, no-header, went-on, no-record}
+use Rattle.packet_state.proofs.RecordLaws.{ruly-of}
+use Rattle.stream.proofs.PacketLaws.{not-twelve, no-header, went-on, no-record}
 use borrow.Author.Needs.{needs}
 use Rattle.stream.proofs.packet.Statement.{statement}
 use Rattle.stream.proofs.packet.Tie as tie
@@ -40,11 +41,11 @@ decide-requires : tie.Need-decide-requires
 decide-requires c κs =
     let judged = c .before .before .before .before .before .before in
     let rules = c .before .before .before .before in
-    let r = rules-say _ _ _ (rules .keeps-record-rules .ensures) (c .before .before .before .if2 .taken) in
+    let r = ruly-of _ _ (sym (rules .keeps-record-rules .ensures) ∙ c .before .before .before .if2 .taken) in
     record {
       header = sym (judged .before .before .header-of .ensures) ∙ judged .h .given .1;
-      place = r .0;
-      key = r .1;
+      place = r .place;
+      key = r .key;
       count = c .before .request-of .ensures .1;
     }
 

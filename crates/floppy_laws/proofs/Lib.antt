@@ -1,0 +1,10 @@
+pub mod Keeping
+pub mod Leaving
+pub mod PlateTable
+pub mod ReadingBack
+pub mod Refusals
+pub mod Selecting
+pub mod Starting
+pub mod Storing
+pub mod Telling
+pub mod Working

@@ -1,0 +1,46 @@
+-- The plates of 02, A1, computed.
+-- Assumes nothing.
+use native.Mathlib.Omega.{arith}
+use mathlib.Core.Path.{refl}
+use Rattle.numbers.specs.Member.{isIn}
+use Rattle.numbers.specs.RuleList.{allHold}
+use Rattle.image.specs.Elements.{kindOf, kindAt, blockAt, layBlock}
+use Rattle.image.specs.Header.{fieldsOf, keepsHeaderRules}
+use Rattle.opcodes.specs.Commands.{floppyCommand}
+use Rattle.transfer.specs.Reading.{stopAt, readFrom}
+use Rattle.transfer.specs.Writing.{layFrom}
+use Rattle.packet_state.specs.States.{keepsRecordRules}
+use Rattle.packet_parts.specs.Answers.{ends}
+use Rattle.packet_parts.specs.Replies.{firstOf, replyEnds}
+use Rattle.packet_parts.specs.Requests.{requestUnder}
+use Rattle.packet_parts.specs.Shell.{carriedOut, decided, answersTo}
+use Rattle.packet_parts.specs.Verdicts.{foundFirst, verdictBy}
+use Rattle.packet_work.specs.Settings.{goodList, speedWork, loadWork}
+use Rattle.floppy_parts.specs.Checks.{askedBy}
+use Rattle.floppy_parts.specs.Headers.{isFull}
+use Rattle.floppy_parts.specs.Requests.{floppyRequest}
+use Rattle.floppy_parts.specs.Rules.{keepsFloppyRules}
+use Rattle.floppy_parts.specs.Tape.{product, resetTape, listedTape}
+use Rattle.floppy.specs.Work.{readEnding, readEnds, readWork, writeEnding, writeEnds, writeWork, goodTapeList, placeUnder, tapeWork, selectWork, workOf}
+use Rattle.floppy.specs.Work.{selectedTape, loadedTape, tapeAfter}
+use Rattle.floppy_laws.specs.Demands.{PlatesPrint, WorkBegins}
+
+pub plates-print : PlatesPrint
+unfolding answersTo decided carriedOut verdictBy foundFirst askedBy floppyRequest requestUnder keepsRecordRules keepsFloppyRules floppyCommand
+    isFull keepsHeaderRules fieldsOf allHold isIn kindOf kindAt blockAt layBlock stopAt readFrom layFrom ends readEnding readEnds readWork
+    writeEnding writeEnds writeWork firstOf replyEnds goodList speedWork loadWork product resetTape listedTape goodTapeList placeUnder tapeWork
+    selectWork workOf selectedTape loadedTape tapeAfter
+plates-print = refl
+
+pub work-begins : WorkBegins
+unfolding answersTo decided carriedOut verdictBy foundFirst askedBy floppyRequest requestUnder keepsRecordRules keepsFloppyRules floppyCommand
+    isFull keepsHeaderRules fieldsOf allHold isIn kindOf kindAt blockAt layBlock stopAt readFrom layFrom ends readEnding readEnds readWork
+    writeEnding writeEnds writeWork firstOf replyEnds goodList speedWork loadWork product resetTape listedTape goodTapeList placeUnder tapeWork
+    selectWork workOf selectedTape loadedTape tapeAfter
+work-begins =
+    record {
+      read = (record { not-refused = refl; works = refl }, omega arith);
+      write = (record { not-refused = refl; works = refl }, omega arith);
+      taken = (record { not-refused = refl; works = refl }, record { code = refl; after = refl; within = omega arith });
+      left = (record { not-refused = refl; works = refl }, λ t. omega (arith, t .within));
+    }

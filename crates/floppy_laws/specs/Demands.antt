@@ -1,0 +1,179 @@
+-- The promises of the floppy tape device, one named type each; proofs/ proves them.
+-- Assumes nothing.
+use Prim.Native.Nat.{ℕ, _+_, _*_, _≤_, _<_}
+use mathlib.Core.Bool.{true, false}
+use mathlib.Core.List.{List}
+use mathlib.Core.Logic.{_↔_}
+use mathlib.Core.Path.{_≡_}
+use lib.ListN.{getD}
+use Rattle.numbers.specs.Member.{isIn}
+use Rattle.numbers.specs.Outcomes.{Settles}
+use Rattle.numbers.specs.Over.{part}
+use Rattle.image.specs.Header.{fieldsOf, headerLength}
+use Rattle.opcodes.specs.declared.Command.the-variants.{Read, Write, ModeSelect, LoadUnload}
+use Rattle.packet_state.specs.States.{speeds, withSense}
+use Rattle.packet_state.specs.Senses.{wrongList}
+use Rattle.packet_parts.specs.Answers.{goodStatus}
+use Rattle.packet_parts.specs.Requests.{loadBit}
+use Rattle.packet_laws.specs.Plates.{sent}
+use Rattle.packet_laws.specs.Promises.{CutPacket as CutPacketOf, RefusedKeeps as RefusedKeepsOf, NumberExactly as NumberExactlyOf}
+use Rattle.packet_laws.specs.Promises.{BeginsExactly as BeginsExactlyOf}
+use Rattle.packet_laws.specs.Words.{numberOf, statusOf, blocksOf, bytesOf, residueOf}
+use Rattle.floppy_parts.specs.declared.tape.Floppy.{Floppy}
+use Rattle.floppy_parts.specs.declared.tape.FloppyOutcome.{FloppyOutcome}
+use Rattle.floppy_parts.specs.Headers.{isFull}
+use Rattle.floppy_parts.specs.Replies.{tapeList}
+use Rattle.floppy_parts.specs.Requests.{floppyRequest, blocksAsked}
+use Rattle.floppy_parts.specs.Rules.{keepsFloppyRules}
+use Rattle.floppy_parts.specs.Tape.{product, resetTape, listedTape, floppyOf}
+use Rattle.floppy.specs.Packet.{FreshPromise, ChangedPromise, PacketPromise, floppyDevice, floppyStep, freshFloppy, changedFloppy}
+use Rattle.floppy_laws.specs.History.{Later}
+use Rattle.floppy_laws.specs.Plates.{image, placed, listOf, select, allAgree, plates, BeginsAndMoves}
+use Rattle.floppy_laws.specs.Words.{placeOf, endOf, senseIn, BeginsWork, TakesList, IsData, EveryReadGives, ReadEnds, WriteEnds, StoppedAtBadBlock, Kept}
+
+-- What every packet device promises: "1: packet is not 12 bytes", whatever the image, the record and the buffer; nothing changes.
+abbrev pub CutPacket : Type 0
+CutPacket = CutPacketOf floppyDevice
+
+-- "A refused call gives its number, and image, buffers and record are then as they were."
+abbrev pub RefusedKeeps : Type 0
+RefusedKeeps = RefusedKeepsOf floppyDevice
+
+-- "Given exactly when": every packet is given the one number that the table has for it, with "2 also when U is below C" and "3 also when the product exceeds C
+-- or P exceeds the product".
+abbrev pub NumberExactly : Type 0
+NumberExactly = NumberExactlyOf floppyDevice
+
+-- A packet begins exactly when its number is 0 and none of the endings before the work holds.
+abbrev pub BeginsExactly : Type 0
+BeginsExactly = BeginsExactlyOf floppyDevice
+
+-- What an accepted packet leaves is again accepted: U is still C, the product within C, and P within the product.
+abbrev pub StaysGood : Type 0
+StaysGood =
+    (s : List ℕ) (f : Floppy) (packet buf : List ℕ) → numberOf (floppyStep s f packet buf) ≡ 0
+    → (isFull (floppyStep s f packet buf .image) ≡ true)
+    × (keepsFloppyRules (fieldsOf (floppyStep s f packet buf .image)) (floppyStep s f packet buf .state) ≡ true)
+
+-- So is what the fresh record and the cartridge change leave, where they are not refused and the speed is one of the five.
+pub record StartsGood : Type 0 where
+  pub fresh : (s : List ℕ) (f : Floppy) → isFull s ≡ true → keepsFloppyRules (fieldsOf s) (freshFloppy s f .state) ≡ true
+  pub changed : (s : List ℕ) (f : Floppy) → isFull s ≡ true → isIn (f .shared .speed) speeds ≡ true
+      → keepsFloppyRules (fieldsOf s) (changedFloppy s f .state) ≡ true
+
+-- "Its residue on an unreadable block leaves out the block in error, so there moved plus residue is one short of asked; demand 2 keeps its sum for every other
+-- ending.": a READ is one short exactly where it stopped at such a block.
+pub record MovedPlusResidue : Type 0 where
+  pub write : (s : List ℕ) (f : Floppy) (packet buf : List ℕ) → BeginsWork s f packet buf → floppyRequest packet .command ≡ Write
+      → blocksOf (floppyStep s f packet buf) + residueOf (senseIn (floppyStep s f packet buf)) ≡ blocksAsked (floppyRequest packet)
+  pub read : (s : List ℕ) (f : Floppy) (packet buf : List ℕ) → BeginsWork s f packet buf → floppyRequest packet .command ≡ Read
+      → (StoppedAtBadBlock s f (blocksAsked (floppyRequest packet)) (floppyStep s f packet buf) → ⊥)
+      → blocksOf (floppyStep s f packet buf) + residueOf (senseIn (floppyStep s f packet buf)) ≡ blocksAsked (floppyRequest packet)
+  pub read-short : (s : List ℕ) (f : Floppy) (packet buf : List ℕ) → BeginsWork s f packet buf → floppyRequest packet .command ≡ Read
+      → StoppedAtBadBlock s f (blocksAsked (floppyRequest packet)) (floppyStep s f packet buf)
+      → blocksOf (floppyStep s f packet buf) + residueOf (senseIn (floppyStep s f packet buf)) + 1 ≡ blocksAsked (floppyRequest packet)
+
+-- A READ that begins copies all N and ends GOOD, or ends with the sense of what stands at P plus the blocks told.
+abbrev pub ReadTellsWhy : Type 0
+ReadTellsWhy =
+    (s : List ℕ) (f : Floppy) (packet buf : List ℕ) → BeginsWork s f packet buf → floppyRequest packet .command ≡ Read
+    → ReadEnds s f (blocksAsked (floppyRequest packet)) (floppyStep s f packet buf)
+
+-- A WRITE that begins stores all N and ends GOOD, or so many that it stands at the product.
+abbrev pub WriteTellsWhy : Type 0
+WriteTellsWhy =
+    (s : List ℕ) (f : Floppy) (packet buf : List ℕ) → BeginsWork s f packet buf → floppyRequest packet .command ≡ Write
+    → WriteEnds f (blocksAsked (floppyRequest packet)) (floppyStep s f packet buf)
+
+-- "bytes are those filled or taken in the data buffer": B for each block.
+pub record BytesAreBlocks : Type 0 where
+  pub read : (s : List ℕ) (f : Floppy) (packet buf : List ℕ) → BeginsWork s f packet buf → floppyRequest packet .command ≡ Read
+      → bytesOf (floppyStep s f packet buf) ≡ blocksOf (floppyStep s f packet buf) * fieldsOf s .size
+  pub write : (s : List ℕ) (f : Floppy) (packet buf : List ℕ) → BeginsWork s f packet buf → floppyRequest packet .command ≡ Write
+      → bytesOf (floppyStep s f packet buf) ≡ blocksOf (floppyStep s f packet buf) * fieldsOf s .size
+
+-- Each block that a READ moves is a data block of the image, and stands whole in the buffer.
+abbrev pub ReadGives : Type 0
+ReadGives =
+    (s : List ℕ) (f : Floppy) (packet buf : List ℕ) → BeginsWork s f packet buf → floppyRequest packet .command ≡ Read
+    → (k : ℕ) → k < blocksOf (floppyStep s f packet buf)
+    → IsData s (placeOf f + k) (part (floppyStep s f packet buf .buf) (k * fieldsOf s .size) (fieldsOf s .size))
+
+-- The same from the other side: a READ of one block or more that begins at a data block below the product moves it.
+abbrev pub ReadMoves : Type 0
+ReadMoves =
+    (s : List ℕ) (f : Floppy) (packet buf bytes : List ℕ) → BeginsWork s f packet buf → floppyRequest packet .command ≡ Read
+    → IsData s (placeOf f) bytes → placeOf f < endOf f → 1 ≤ blocksAsked (floppyRequest packet)
+    → 1 ≤ blocksOf (floppyStep s f packet buf)
+
+-- Each block that a WRITE counts is data with the buffer's bytes, in the image that it leaves.
+abbrev pub BlocksStored : Type 0
+BlocksStored =
+    (s : List ℕ) (f : Floppy) (packet buf : List ℕ) → BeginsWork s f packet buf → floppyRequest packet .command ≡ Write
+    → (j : ℕ) → j < blocksOf (floppyStep s f packet buf)
+    → IsData (floppyStep s f packet buf .image) (placeOf f + j) (part buf (j * fieldsOf s .size) (fieldsOf s .size))
+
+-- A written block reads back the same until something is stored at its own place: nothing before it harms it here.
+abbrev pub ReadsBack : Type 0
+ReadsBack =
+    (s : List ℕ) (f : Floppy) (packet buf : List ℕ) → BeginsWork s f packet buf → floppyRequest packet .command ≡ Write
+    → (j : ℕ) → j < blocksOf (floppyStep s f packet buf)
+    → (s' : List ℕ) (f' : Floppy) → Later (placeOf f + j) (floppyStep s f packet buf .image) (floppyStep s f packet buf .state) s' f'
+    → IsData s' (placeOf f + j) (part buf (j * fieldsOf s .size) (fieldsOf s .size))
+    × EveryReadGives s' f' (placeOf f + j) (part buf (j * fieldsOf s .size) (fieldsOf s .size))
+
+-- "a write leaves U": no packet moves U or any other byte of the header.
+pub record RecordedKept : Type 0 where
+  pub bytes : (s : List ℕ) (f : Floppy) (packet buf : List ℕ) (m : ℕ) → m < headerLength → getD (floppyStep s f packet buf .image) m 0 ≡ getD s m 0
+  pub fields : (s : List ℕ) (f : Floppy) (packet buf : List ℕ) → fieldsOf (floppyStep s f packet buf .image) ≡ fieldsOf s
+
+-- "bytes beyond the transfer stay", in the buffer and in the image; the neighbours of the blocks written are unharmed.
+abbrev pub BeyondKept : Type 0
+BeyondKept =
+    (s : List ℕ) (f : Floppy) (packet buf : List ℕ) → numberOf (floppyStep s f packet buf) ≡ 0
+    → Kept s f packet buf (floppyStep s f packet buf)
+
+-- "page 2Bh is .. set; its list has 28 bytes": such a list is taken exactly when its page bytes are right and its product is at most C; then the parameters
+-- are the list's, and P is 0 where the product fell below it, else it stays. Nothing else but a load sets them.
+pub record SelectExactly : Type 0 where
+  pub taken : (s : List ℕ) (f : Floppy) (packet list : List ℕ) → BeginsWork s f packet list → floppyRequest packet .command ≡ ModeSelect
+      → floppyRequest packet .length ≡ tapeList → (statusOf (floppyStep s f packet list) ≡ goodStatus) ↔ TakesList (fieldsOf s) list
+  pub set : (s : List ℕ) (f : Floppy) (packet list : List ℕ) → BeginsWork s f packet list → floppyRequest packet .command ≡ ModeSelect
+      → floppyRequest packet .length ≡ tapeList → TakesList (fieldsOf s) list
+      → floppyStep s f packet list .state .tape ≡ listedTape list
+  pub below : (s : List ℕ) (f : Floppy) (packet list : List ℕ) → BeginsWork s f packet list → floppyRequest packet .command ≡ ModeSelect
+      → floppyRequest packet .length ≡ tapeList → TakesList (fieldsOf s) list
+      → product (listedTape list) < placeOf f → placeOf (floppyStep s f packet list .state) ≡ 0
+  pub above : (s : List ℕ) (f : Floppy) (packet list : List ℕ) → BeginsWork s f packet list → floppyRequest packet .command ≡ ModeSelect
+      → floppyRequest packet .length ≡ tapeList → TakesList (fieldsOf s) list
+      → placeOf f ≤ product (listedTape list) → placeOf (floppyStep s f packet list .state) ≡ placeOf f
+  -- "a list that makes the product exceed C is 5/26/00": only the sense is new
+  pub left : (s : List ℕ) (f : Floppy) (packet list : List ℕ) → BeginsWork s f packet list → floppyRequest packet .command ≡ ModeSelect
+      → floppyRequest packet .length ≡ tapeList → (TakesList (fieldsOf s) list → ⊥)
+      → floppyStep s f packet list .state ≡ floppyOf (withSense (f .shared) wrongList) (f .tape)
+  -- "After a load .. BSEG is 1, SEGTRK C, TRKS 1 and the rest 0"
+  pub load : (s : List ℕ) (f : Floppy) (packet buf : List ℕ) → BeginsWork s f packet buf → floppyRequest packet .command ≡ LoadUnload
+      → loadBit (floppyRequest packet) ≡ true → floppyStep s f packet buf .state .tape ≡ resetTape (fieldsOf s .capacity)
+  pub unload : (s : List ℕ) (f : Floppy) (packet buf : List ℕ) → floppyRequest packet .command ≡ LoadUnload
+      → loadBit (floppyRequest packet) ≡ false → floppyStep s f packet buf .state .tape ≡ f .tape
+  pub others : (s : List ℕ) (f : Floppy) (packet buf : List ℕ) → (floppyRequest packet .command ≡ ModeSelect → ⊥)
+      → (floppyRequest packet .command ≡ LoadUnload → ⊥) → floppyStep s f packet buf .state .tape ≡ f .tape
+
+-- "Prove that any two outcomes allowed by it coincide": what the promises of `packet`, `fresh` and `changed` allow.
+pub record Settled : Type 0 where
+  pub packet : (s : List ℕ) (f : Floppy) (packet buf : List ℕ) (r r' : FloppyOutcome) (image image' buf' buf'' : List ℕ)
+      → PacketPromise s f packet buf r image buf' → PacketPromise s f packet buf r' image' buf''
+      → (r ≡ r') × (image ≡ image') × (buf' ≡ buf'')
+  pub fresh : (s : List ℕ) (f : Floppy) → Settles (FreshPromise s f)
+  pub changed : (s : List ℕ) (f : Floppy) → Settles (ChangedPromise s f)
+
+-- Plates worked out by hand from A1's words, proved together as one table.
+abbrev pub PlatesPrint : Type 0
+PlatesPrint = allAgree plates ≡ true
+
+-- What is asked above can be so: a READ and a WRITE that begin and move a block, a list of 28 bytes that is taken and one that is not.
+pub record WorkBegins : Type 0 where
+  pub read : BeginsAndMoves (placed 0) (sent 0x08 1 0 0 3 0 0)
+  pub write : BeginsAndMoves (placed 3) (sent 0x0a 1 0 0 2 0 0)
+  pub taken : BeginsWork (image 0) (placed 3) select (listOf 1 2 1) × TakesList (fieldsOf (image 0)) (listOf 1 2 1)
+  pub left : BeginsWork (image 0) (placed 3) select (listOf 1 5 1) × (TakesList (fieldsOf (image 0)) (listOf 1 5 1) → ⊥)

@@ -1,0 +1,4 @@
+pub mod Words
+pub mod History
+pub mod Plates
+pub mod Demands
