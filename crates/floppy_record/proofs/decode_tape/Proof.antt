@@ -1,0 +1,65 @@
+-- `decode_tape` meets its contract.
+-- Assumes nothing.
+use Rattle.floppy_record.specs.FloppyRecord.{decodeTape}
+use borrow.Author.Needs.{needs}
+use Rattle.floppy_record.proofs.decode_tape.Statement.{statement}
+use Rattle.floppy_record.proofs.decode_tape.Tie as tie
+
+shared-slice-read-reported-of : tie.Need-shared-slice-read-reported-of
+shared-slice-read-reported-of c = search needs
+
+shared-slice-read-reported-of-2 : tie.Need-shared-slice-read-reported-of-2
+shared-slice-read-reported-of-2 c = search needs
+
+shared-slice-read-reported-of-3 : tie.Need-shared-slice-read-reported-of-3
+shared-slice-read-reported-of-3 c = search needs
+
+shared-slice-read-reported-of-4 : tie.Need-shared-slice-read-reported-of-4
+shared-slice-read-reported-of-4 c = search needs
+
+shared-slice-read-reported-of-5 : tie.Need-shared-slice-read-reported-of-5
+shared-slice-read-reported-of-5 c = search needs
+
+shared-slice-read-reported-of-6 : tie.Need-shared-slice-read-reported-of-6
+shared-slice-read-reported-of-6 c = search needs
+
+reported-of-requires : tie.Need-reported-of-requires
+reported-of-requires c κs = search needs
+
+shared-slice-read-t4 : tie.Need-shared-slice-read-t4
+shared-slice-read-t4 c = search needs
+
+count2-requires : tie.Need-count2-requires
+count2-requires c κs = search needs
+
+cast-t17 : tie.Need-cast-t17
+cast-t17 c = search needs
+
+count2-requires-2 : tie.Need-count2-requires-2
+count2-requires-2 c κs = search needs
+
+cast-t19 : tie.Need-cast-t19
+cast-t19 c = search needs
+
+returns : tie.Need-returns
+unfolding decodeTape
+returns c =
+    simp (c .before .before .before .reported-of .ensures, c .count22 .ensures .0, c .before .count2 .ensures .0)
+
+pub decode-tape-spec : {M : Type 1} → statement M
+decode-tape-spec =
+    tie.close
+    (tie.spec
+    shared-slice-read-reported-of
+    shared-slice-read-reported-of-2
+    shared-slice-read-reported-of-3
+    shared-slice-read-reported-of-4
+    shared-slice-read-reported-of-5
+    shared-slice-read-reported-of-6
+    reported-of-requires
+    shared-slice-read-t4
+    count2-requires
+    cast-t17
+    count2-requires-2
+    cast-t19
+    returns)
