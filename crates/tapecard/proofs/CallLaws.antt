@@ -1,6 +1,6 @@
 -- The ways out of the calls.
 -- Assumes nothing.
-use mathlib.Core.Path.{_≡_}
+use mathlib.Core.Path.{_≡_, ap}
 use mathlib.Core.Bool.{Bool}
 use mathlib.Core.List.{List}
 use Prim.Native.Nat.{ℕ}
@@ -10,6 +10,11 @@ use Rattle.packet_state.specs.declared.state.State.{State}
 use Rattle.packet_state.specs.States.{freshState, changedState}
 use Rattle.packet_parts.specs.Answers.{done}
 use Rattle.stream.specs.Packet.{packetStep}
+use Rattle.floppy_parts.specs.declared.tape.Floppy.{Floppy}
+use Rattle.floppy_parts.specs.declared.tape.FloppyOutcome.{FloppyOutcome}
+use Rattle.floppy_parts.specs.Tape.{leaves}
+use Rattle.floppy.specs.Packet.{freshFloppy, changedFloppy, floppyStep}
+use Rattle.floppy_record.specs.FloppyRecord.{decodeFloppy, encodeFloppy}
 use Rattle.pulse.specs.declared.calls.Step.{Step}
 use Rattle.pulse.specs.declared.calls.Waited.{Waited}
 use Rattle.pulse.specs.declared.drive.Drive.{Drive}
@@ -18,6 +23,8 @@ use Rattle.pulse.specs.Calls.{trainCall, tickCall, insertCall, removeCall, wait
 use Rattle.pulse_parts.specs.declared.cartridge.Cartridge.{Cartridge}
 use Rattle.packet_record.specs.PacketRecord.{decodeState, encodeState, encodeAnswer}
 use Rattle.tapecard.specs.PacketCalls.{packetCard, packetFresh, packetChange, packetLeft, packetCall}
+use Rattle.tapecard.specs.FloppyCalls.{FloppyTold, floppyCard, floppyTold, floppyLeft, floppyPacketLeft}
+use Rattle.tapecard.specs.FloppyCalls.{floppyFreshCall, floppyChangeCall, floppyPacketCall}
 use Rattle.pulse_record.specs.PulseRecord.{decodeDrive, encodeDrive, encodeTold, describedCartridge, describedPlace}
 use Rattle.tapecard.specs.PulseCalls.{PulseCard, pulseCard, pulseLeft, pulsePowerOn, pulseTrain, pulseTick, pulseInsert, pulseRemove, pulseWait}
 
@@ -42,6 +49,33 @@ module _ (s image packet buf : List ℕ) (st : State) (o : Outcome) (image' buf'
       packetCard new image' buf' answer ≡ packetCall s image packet buf
   unfolding packetCall packetLeft
   packet-written new n f = rw (f, w, ← q, ← e, n)
+
+-- ---- the floppy tape device
+
+module _ (s answer : List ℕ) (o : FloppyOutcome) (w : answer ≡ encodeAnswer (o .answer)) where
+  pub floppy-kept : (o .answer .number ≡ 0 → ⊥) → floppyTold s answer ≡ floppyLeft s o
+  unfolding floppyLeft
+  floppy-kept n = rw (w, ne-eqb _ _ n)
+
+  pub floppy-written : (new : List ℕ) → o .answer .number ≡ 0 → new ≡ encodeFloppy (o .state) → floppyTold new answer ≡ floppyLeft s o
+  unfolding floppyLeft
+  floppy-written new n f = rw (f, w, eq-eqb _ _ n)
+
+module _ (s image : List ℕ) (f : Floppy) (o : FloppyOutcome) (left : FloppyTold) (q : f ≡ decodeFloppy s) (l : left ≡ floppyLeft s o) where
+  pub floppy-fresh-left : o ≡ freshFloppy image f → left ≡ floppyFreshCall s image
+  unfolding floppyFreshCall
+  floppy-fresh-left e = rw (l, e, q)
+
+  pub floppy-change-left : o ≡ changedFloppy image f → left ≡ floppyChangeCall s image
+  unfolding floppyChangeCall
+  floppy-change-left e = rw (l, e, q)
+
+pub floppy-packet-left : (s image packet buf : List ℕ) (f : Floppy) (o : FloppyOutcome) (s' image' buf' answer : List ℕ) → f ≡ decodeFloppy s
+    → leaves o image' buf' ≡ floppyStep image f packet buf → floppyTold s' answer ≡ floppyLeft s o
+    → floppyCard s' image' buf' answer ≡ floppyPacketCall s image packet buf
+unfolding floppyPacketCall floppyPacketLeft floppyLeft
+floppy-packet-left s image packet buf f o s' image' buf' answer q e l =
+    rw (← q, ← e) (ap (λ (x : FloppyTold). floppyCard (x .state) image' buf' (x .answer)) l)
 
 -- ---- the pulse drive
 
@@ -86,6 +120,11 @@ pub ruleset ways = (
   change-left,
   packet-kept,
   packet-written,
+  floppy-kept,
+  floppy-written,
+  floppy-fresh-left,
+  floppy-change-left,
+  floppy-packet-left,
   power-left,
   pulse-kept,
   pulse-written,

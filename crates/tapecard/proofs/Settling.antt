@@ -5,6 +5,8 @@ use Prim.Native.Nat.{ℕ}
 use Rattle.numbers.specs.Outcomes.{Settles}
 use Rattle.numbers.proofs.Cases.{settles}
 use Rattle.tapecard.specs.PacketCalls.{PacketCallPromise, PacketChangePromise, PacketFreshPromise, packetCall, packetChange, packetFresh}
+use Rattle.tapecard.specs.FloppyCalls.{FloppyCallPromise, FloppyChangePromise, FloppyFreshPromise}
+use Rattle.tapecard.specs.FloppyCalls.{floppyChangeCall, floppyFreshCall, floppyPacketCall}
 use Rattle.tapecard.specs.PulseCalls.{PulseInsertPromise, PulsePowerOnPromise, PulseRemovePromise}
 use Rattle.tapecard.specs.PulseCalls.{PulseTickPromise, PulseTrainPromise, PulseWaitPromise}
 use Rattle.tapecard.specs.PulseCalls.{pulseInsert, pulsePowerOn, pulseRemove, pulseTick, pulseTrain, pulseWait}
@@ -17,6 +19,15 @@ change-settled state = settles (packetChange state)
 
 pub packet-settled : (state image packet buf : List ℕ) → Settles (PacketCallPromise state image packet buf)
 packet-settled state image packet buf = settles (packetCall state image packet buf)
+
+pub floppy-fresh-settled : (state image : List ℕ) → Settles (FloppyFreshPromise state image)
+floppy-fresh-settled state image = settles (floppyFreshCall state image)
+
+pub floppy-change-settled : (state image : List ℕ) → Settles (FloppyChangePromise state image)
+floppy-change-settled state image = settles (floppyChangeCall state image)
+
+pub floppy-packet-settled : (state image packet buf : List ℕ) → Settles (FloppyCallPromise state image packet buf)
+floppy-packet-settled state image packet buf = settles (floppyPacketCall state image packet buf)
 
 pub power-on-settled : (vendor rom : ℕ) → Settles (PulsePowerOnPromise vendor rom)
 power-on-settled vendor rom = settles (pulsePowerOn vendor rom)

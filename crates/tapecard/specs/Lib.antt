@@ -1,2 +1,3 @@
 pub mod PacketCalls
+pub mod FloppyCalls
 pub mod PulseCalls
