@@ -71,6 +71,20 @@ module _ (a b c : Bool) where
   pub three-back : (isSet threeFlags 1 ≡ a) × ((isSet threeFlags 2 ≡ b) × (isSet threeFlags 4 ≡ c))
   three-back = (set-by _ a (three-bits .0), (set-by _ b (three-bits .1 .0), set-by _ c (three-bits .1 .1)))
 
+-- the three highest bits
+abbrev pub highFlags : Bool → Bool → Bool → ℕ
+highFlags a b c = weightOf a 0x80 + weightOf b 0x40 + weightOf c 0x20
+
+pub high-back : (a b c : Bool) → (isSet (highFlags a b c) 0x80 ≡ a) × ((isSet (highFlags a b c) 0x40 ≡ b) × (isSet (highFlags a b c) 0x20 ≡ c))
+high-back true true true = (refl, (refl, refl))
+high-back true true false = (refl, (refl, refl))
+high-back true false true = (refl, (refl, refl))
+high-back true false false = (refl, (refl, refl))
+high-back false true true = (refl, (refl, refl))
+high-back false true false = (refl, (refl, refl))
+high-back false false true = (refl, (refl, refl))
+high-back false false false = (refl, (refl, refl))
+
 module _ (a b c d e : Bool) where
   abbrev pub fiveFlags : ℕ
   fiveFlags = weightOf a 1 + weightOf b 2 + weightOf c 4 + weightOf d 8 + weightOf e 16

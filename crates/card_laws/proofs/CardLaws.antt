@@ -7,18 +7,26 @@ use Prim.Native.Nat.{ℕ}
 use borrow.Author.Tests.{ne-eqb}
 use Rattle.tapecard.proofs.Settling.{fresh-settled, change-settled, packet-settled, power-on-settled, train-settled, tick-settled}
 use Rattle.tapecard.proofs.Settling.{insert-settled, remove-settled, wait-settled}
+use Rattle.tapecard.proofs.Settling.{floppy-fresh-settled, floppy-change-settled, floppy-packet-settled}
 use Rattle.packet_state.specs.declared.state.State.{State}
 use Rattle.packet_parts.specs.Answers.{Left}
 use Rattle.packet_laws.specs.Words.{Refusal}
 use Rattle.stream_laws.proofs.Refusals.{refused-keeps}
+use Rattle.floppy_parts.specs.declared.tape.Floppy.{Floppy}
+use Rattle.floppy_parts.specs.declared.tape.FloppyOutcome.{FloppyOutcome}
+use Rattle.floppy_laws.proofs.Refusals.{refused-keeps as floppy-refused-keeps}
+use Rattle.floppy_record.specs.FloppyRecord.{decodeFloppy}
+use Rattle.tapecard.specs.FloppyCalls.{floppyCard, floppyLeft, floppyPacketLeft, floppyFreshCall, floppyChangeCall, floppyPacketCall}
 use Rattle.pulse.specs.declared.drive.Drive.{Drive}
 use Rattle.packet_record.specs.PacketRecord.{decodeState, encodeAnswer}
 use Rattle.tapecard.specs.PacketCalls.{packetCard, packetLeft, packetCall}
 use Rattle.pulse_record.specs.PulseRecord.{encodeTold}
 use Rattle.tapecard.specs.PulseCalls.{pulseLeft, pulseTrain, pulseTick, pulseInsert, pulseRemove, pulseWait}
-use Rattle.card_laws.specs.Promises.{PacketRefusedUntouched, UntouchedIfRefused, TrainRefusedUntouched, TickRefusedUntouched}
-use Rattle.card_laws.specs.Promises.{InsertRefusedUntouched, RemoveRefusedUntouched, WaitRefusedUntouched, CountsWhole, Settled}
+use Rattle.card_laws.specs.Promises.{Refused, PacketRefusedUntouched, FloppyRefusedUntouched, UntouchedIfRefused}
+use Rattle.card_laws.specs.Promises.{TrainRefusedUntouched, TickRefusedUntouched, InsertRefusedUntouched, RemoveRefusedUntouched}
+use Rattle.card_laws.specs.Promises.{WaitRefusedUntouched, CountsWhole, Settled}
 use Rattle.card_laws.proofs.PacketFollowing.{blocks-whole, bytes-whole}
+use Rattle.card_laws.proofs.FloppyFollowing.{floppy-blocks-whole, floppy-bytes-whole}
 use Rattle.card_laws.proofs.PulseFollowing.{ticks-whole}
 
 -- ---- refused: untouched
@@ -32,6 +40,25 @@ pub packet-refused-untouched : PacketRefusedUntouched
 unfolding packetCall packetLeft encodeAnswer
 packet-refused-untouched state image packet buf n =
     left-untouched state image buf (decodeState state) _ (refused-keeps image (decodeState state) packet buf n) n
+
+told-untouched : (state : List ℕ) (o : FloppyOutcome) → Refused (floppyLeft state o .answer) → floppyLeft state o .state ≡ state
+unfolding floppyLeft encodeAnswer
+told-untouched state o n = rw (ne-eqb _ _ n)
+
+floppy-left-untouched : (state image buf : List ℕ) (f : Floppy) (x : Left Floppy) → Refusal image f buf x → (x .answer .number ≡ 0 → ⊥)
+    → floppyPacketLeft state x ≡ floppyCard state image buf (floppyPacketLeft state x .answer)
+unfolding floppyPacketLeft
+floppy-left-untouched state image buf f x r n = rw (ne-eqb _ _ n, r .image-kept, r .buf-kept)
+
+pub floppy-refused-untouched : FloppyRefusedUntouched
+unfolding floppyFreshCall floppyChangeCall floppyPacketCall floppyPacketLeft encodeAnswer
+floppy-refused-untouched =
+    record {
+      fresh = λ state image. told-untouched state _;
+      change = λ state image. told-untouched state _;
+      packet = λ state image packet buf n.
+          floppy-left-untouched state image buf (decodeFloppy state) _ (floppy-refused-keeps image (decodeFloppy state) packet buf n) n;
+    }
 
 pulse-untouched : (state : List ℕ) (number : ℕ) (level : Bool) (ticks : ℕ) (d : Drive) → UntouchedIfRefused state (pulseLeft state number level ticks d)
 unfolding pulseLeft encodeTold
@@ -60,7 +87,14 @@ wait-refused-untouched state limit = pulse-untouched state _ _ _ _
 -- ---- counts
 
 pub counts-whole : CountsWhole
-counts-whole = record { blocks = blocks-whole; bytes = bytes-whole; ticks = ticks-whole }
+counts-whole =
+    record {
+      blocks = blocks-whole;
+      bytes = bytes-whole;
+      floppy-blocks = floppy-blocks-whole;
+      floppy-bytes = floppy-bytes-whole;
+      ticks = ticks-whole;
+    }
 
 -- ---- one outcome
 
@@ -70,6 +104,9 @@ settled =
       fresh = fresh-settled;
       change = change-settled;
       packet = packet-settled;
+      floppy-fresh = floppy-fresh-settled;
+      floppy-change = floppy-change-settled;
+      floppy-packet = floppy-packet-settled;
       power-on = power-on-settled;
       train = train-settled;
       tick = tick-settled;

@@ -2,6 +2,7 @@
 -- Assumes nothing.
 use mathlib.Core.Path.{_≡_, refl}
 use mathlib.Core.Bool.{Bool, true, false, _||_}
+use mathlib.Core.List.{List, [], _++_}
 use Prim.Native.Nat.{ℕ, _+_, _*_, _/_, _%_, _^_, _<_, _≤_}
 use native.Mathlib.Nat.{lt-of-lt-of-le, zero-lt-suc, pow-le-pow-right, one-le-pow, mod-eq-of-lt, mod-lt}
 use native.Mathlib.Omega.{arith}
@@ -28,10 +29,15 @@ use Rattle.pulse.specs.Drives.{driveOf}
 use Rattle.pulse.specs.Rules.{isFree}
 use Rattle.pulse_laws.proofs.Rules.{Cart, full, bare, to-rules}
 use Rattle.packet_record.specs.PacketRecord.{decodeState, encodeState}
+use Rattle.floppy_parts.specs.declared.tape.Reported.{Reported}
+use Rattle.floppy_parts.specs.declared.tape.Tape.{Tape}
+use Rattle.floppy_parts.specs.Tape.{floppyOf}
+use Rattle.floppy_record.specs.FloppyRecord.{decodeFloppy, decodeTape, encodeFloppy, encodeTape}
 use Rattle.pulse_record.specs.PulseRecord.{waitingOf, waitedCode, waitedHeld, waitedValue, cartridgeOf, cartridgeByte, cartridgeIn, headIn, reportIn}
 use Rattle.pulse_record.specs.PulseRecord.{waitingIn, decodeDrive, encodeDrive}
-use Rattle.card_laws.specs.Promises.{HeldAlone, StateKeptByCycle, DecodedStateFits, DriveKeptByCycle, DecodedDriveFits}
-use Rattle.card_laws.proofs.ByteLaws.{two-back, four-back, one-back, three-back, five-back, attention-back, motion-back, bits-back}
+use Rattle.card_laws.specs.Promises.{HeldAlone, FitsRecord, StateKeptByCycle, DecodedStateFits, FloppyKeptByCycle, DecodedTapeFits}
+use Rattle.card_laws.specs.Promises.{DriveKeptByCycle, DecodedDriveFits}
+use Rattle.card_laws.proofs.ByteLaws.{two-back, four-back, one-back, three-back, high-back, five-back, attention-back, motion-back, bits-back}
 use Rattle.card_laws.proofs.ByteLaws.{unsent-most, unsent-closed}
 
 -- ---- the packet drive
@@ -46,13 +52,41 @@ same-sense : {k c q i i' : ℕ} {f f' e e' v v' : Bool} → f ≡ f' → e ≡ e
     (record { key = k; asc = c; ascq = q; filemark = f'; eom = e'; valid = v'; information = i' })
 same-sense f e v i = rw (f, e, v, i)
 
-pub state-kept-by-cycle : StateKeptByCycle
+-- whatever bytes stand after its own
+state-back : (st : State) (rest : List ℕ) → FitsRecord st → decodeState (encodeState st ++ rest) ≡ st
 unfolding decodeState encodeState
-state-kept-by-cycle st f =
+state-back st rest f =
     let x = st .sense in
     let b = three-back (x .valid) (x .eom) (x .filemark) in
     same-state (four-back (st .position) (f .position)) (one-back (st .loaded)) (attention-back (st .attention)) (two-back (st .speed) (f .speed))
     (same-sense (b .1 .1) (b .1 .0) (b .0) (four-back (x .information) (f .information)))
+
+pub state-kept-by-cycle : StateKeptByCycle
+unfolding encodeState
+state-kept-by-cycle st f = state-back st [] f
+
+-- ---- the floppy tape device
+
+same-reported : {d i s c h : ℕ} {w w' r r' f f' : Bool} → w ≡ w' → r ≡ r' → f ≡ f'
+    → _≡_ {A = Reported} (record { density = d; fill = i; sector = s; cylinder = c; head = h; deleted = w; reduced = r; formatting = f })
+    (record { density = d; fill = i; sector = s; cylinder = c; head = h; deleted = w'; reduced = r'; formatting = f' })
+same-reported w r f = rw (w, r, f)
+
+same-tape : {b s s' t t' : ℕ} {x x' : Reported} → s ≡ s' → t ≡ t' → x ≡ x'
+    → _≡_ {A = Tape} (record { bseg = b; segtrk = s; trks = t; reported = x }) (record { bseg = b; segtrk = s'; trks = t'; reported = x' })
+same-tape s t x = rw (s, t, x)
+
+same-floppy : {s s' : State} {t t' : Tape} → s ≡ s' → t ≡ t' → floppyOf s t ≡ floppyOf s' t'
+same-floppy s t = rw (s, t)
+
+pub floppy-kept-by-cycle : FloppyKeptByCycle
+unfolding decodeFloppy decodeTape encodeFloppy encodeTape encodeState
+floppy-kept-by-cycle f a b =
+    let t = f .tape in
+    let x = t .reported in
+    let g = high-back (x .deleted) (x .reduced) (x .formatting) in
+    same-floppy (state-back (f .shared) (encodeTape t) a)
+    (same-tape (two-back (t .segtrk) (b .segtrk)) (two-back (t .trks) (b .trks)) (same-reported (g .0) (g .1 .0) (g .1 .1)))
 
 -- ---- the parts of the pulse drive
 
@@ -163,6 +197,20 @@ drive-kept-by-cycle d k f =
 pub decoded-state-fits : DecodedStateFits
 unfolding decodeState
 decoded-state-fits s h = record { position = count-bound s 0 4 h; speed = count-bound s 6 2 h; information = count-bound s 12 4 h }
+
+pub decoded-tape-fits : DecodedTapeFits
+unfolding decodeTape
+decoded-tape-fits s h =
+    record {
+      bseg = h 18;
+      segtrk = count-bound s 20 2 h;
+      trks = count-bound s 22 2 h;
+      density = h 16;
+      fill = h 17;
+      sector = h 24;
+      cylinder = h 25;
+      head = h 26;
+    }
 
 held-alone : (none : Bool) (code held value : ℕ) → HeldAlone (if none then Nothing else For code held (value % 16 ^ held))
 held-alone true code held value = tt

@@ -5,5 +5,7 @@ pub mod BytesKept
 pub mod PulseFollowing
 pub mod PacketFollowing
 pub mod PacketBytes
+pub mod FloppyFollowing
+pub mod FloppyBytes
 pub mod Recovering
 pub mod CardLaws

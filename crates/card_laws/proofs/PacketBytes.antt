@@ -11,7 +11,7 @@ use Rattle.numbers.specs.Choice.{_<ᵇ_, _≡ᵇ_, if_then_else_}
 use Rattle.numbers.specs.Counts.{countBytes}
 use Rattle.numbers.proofs.Cases.{ands, either}
 use Rattle.image.specs.declared.header.Header.{Header}
-use Rattle.image.specs.Header.{fieldsOf, keepsHeaderRules}
+use Rattle.image.specs.Header.{fieldsOf}
 use Rattle.opcodes.specs.declared.Command.{Command}
 use Rattle.opcodes.specs.declared.Command.the-variants.{Unknown, TestUnitReady, Rewind, RequestSense, Read, Write, WriteFilemarks}
 use Rattle.opcodes.specs.declared.Command.the-variants.{Space, Inquiry, ModeSelect, ModeSense, LoadUnload, Locate, ReadPosition}
@@ -28,13 +28,13 @@ use Rattle.packet_state.specs.declared.state.State.{State}
 use Rattle.packet_state.specs.declared.state.Verdict.{Verdict}
 use Rattle.packet_state.specs.declared.state.Verdict.the-variants.{Refuses, Ends, Works}
 use Rattle.packet_state.specs.Senses.{unitAttention}
-use Rattle.packet_state.specs.States.{changedState, freshState, keepsRecordRules}
+use Rattle.packet_state.specs.States.{changedState, freshState}
 use Rattle.packet_parts.specs.declared.requests.Request.{Request}
-use Rattle.packet_parts.specs.Answers.{Left, ends}
+use Rattle.packet_parts.specs.Answers.{Left, ends, endedBefore}
 use Rattle.packet_parts.specs.declared.verdicts.Asked.{Asked}
 use Rattle.packet_parts.specs.Replies.{replyEnds}
 use Rattle.packet_parts.specs.Requests.{packetLength}
-use Rattle.packet_parts.specs.Shell.{carriedOut, decided, answersTo}
+use Rattle.packet_parts.specs.Shell.{Device, carriedOut, decided, answersTo}
 use Rattle.packet_parts.specs.Verdicts.{foundFirst, verdictBy}
 use Rattle.stream.specs.Packet.{streamDevice, packetStep}
 use Rattle.stream.specs.Work.{endingOf, locateWork, markWork, readEnds, readWork, selectWork, spaceWork, workOf}
@@ -49,14 +49,14 @@ use Rattle.card_laws.proofs.BytesKept.{All, bytes-of, flag-most, next, 
 
 -- ---- every number that a packet tells, and both codes of every sense that it leaves, stand in a byte each
 
-abbrev low : Sense → Bool
+abbrev pub low : Sense → Bool
 low x = (x .asc <ᵇ 256) && (x .ascq <ᵇ 256)
 
 -- the record is left only where the packet is not refused
-abbrev fits : Outcome → Bool
+abbrev pub fits : Outcome → Bool
 fits x = (x .answer .number <ᵇ 256) && (x .answer .status <ᵇ 256) && (if x .answer .number ≡ᵇ 0 then low (x .state .sense) else true)
 
-alike : (b : Bool) → cond b true true ≡ true
+pub alike : (b : Bool) → cond b true true ≡ true
 alike true = refl
 alike false = refl
 
@@ -80,11 +80,11 @@ unfolding verdictBy foundFirst
 verdict-low a protected st room = simp (verdict-of, attention-low (st .attention), alike)
 
 -- the work
-abbrev lowEnding : Ending → Bool
+abbrev pub lowEnding : Ending → Bool
 lowEnding Good = true
 lowEnding (Check x) = low x
 
-ending-of : (b : Bool) (x y : Ending) → lowEnding (cond b x y) ≡ cond b (lowEnding x) (lowEnding y)
+pub ending-of : (b : Bool) (x y : Ending) → lowEnding (cond b x y) ≡ cond b (lowEnding x) (lowEnding y)
 ending-of true x y = refl
 ending-of false x y = refl
 
@@ -100,12 +100,12 @@ write-low : (h : Header) (asked : ℕ) (m : Moved) → lowEnding (writeEnding h 
 unfolding writeEnding
 write-low h asked m = simp (ending-of, alike)
 
-ends-fits : (st : State) (e : Ending) (blocks bytes : ℕ) → fits (ends st e blocks bytes) ≡ lowEnding e
+pub ends-fits : (st : State) (e : Ending) (blocks bytes : ℕ) → fits (ends st e blocks bytes) ≡ lowEnding e
 unfolding ends
 ends-fits st Good blocks bytes = refl
 ends-fits st (Check x) blocks bytes = refl
 
-fits-of : (b : Bool) (x y : Outcome) → fits (cond b x y) ≡ cond b (fits x) (fits y)
+pub fits-of : (b : Bool) (x y : Outcome) → fits (cond b x y) ≡ cond b (fits x) (fits y)
 fits-of true x y = refl
 fits-of false x y = refl
 
@@ -126,27 +126,35 @@ work-fits LoadUnload s h st q buf = ends-fits _ _ _ _
 work-fits Locate s h st q buf = simp (fits-of, ends-fits, alike)
 work-fits ReadPosition s h st q buf = ends-fits _ _ _ _
 
--- the whole packet
-abbrev Fits : Left State → Type 0
-Fits x = fits (outcomeOf x) ≡ true
+-- the whole packet, of any device that keeps the record it is given
+module _ {R : Type 0} (d : Device R) where
+  abbrev pub toldOf : Left R → Outcome
+  toldOf x = record { answer = x .answer; state = d .shared (x .state) }
 
-carried-fits : (v : Verdict) (s : List ℕ) (h : Header) (st : State) (q : Request) (buf : List ℕ) → lowVerdict v ≡ true →
-    Fits (carriedOut streamDevice v s h st q buf)
-unfolding carriedOut
-carried-fits (Refuses number) s h st q buf e =
-    let l : (number <ᵇ 256) ≡ true = search ands in
-    let n : (number ≡ᵇ 0) ≡ false = not-true _ (search ands) in
-    rw (l, n)
-carried-fits (Ends x) s h st q buf e = e
-carried-fits Works s h st q buf e = work-fits (q .command) s h st q buf
+  abbrev pub Fits : Left R → Type 0
+  Fits x = fits (toldOf x) ≡ true
 
-packet-fits : (s : List ℕ) (st : State) (packet buf : List ℕ) → Fits (packetStep s st packet buf)
-unfolding answersTo decided
-packet-fits s st packet buf =
-    either Fits (not (length packet ≡ᵇ packetLength)) _ _ (λ e. refl) (λ e.
-    either Fits (not (keepsHeaderRules s)) _ _ (λ e. refl) (λ e.
-    either Fits (not (keepsRecordRules (fieldsOf s .recorded) st)) _ _ (λ e. refl) (λ e.
-    carried-fits _ s (fieldsOf s) st _ buf (verdict-low _ _ st (length buf)))))
+  module _ (shares : (st : R) (next : State) → d .shared (d .withShared st next) ≡ next)
+      (works : (s : List ℕ) (h : Header) (st : R) (q : Request) (buf : List ℕ) → Fits (d .work s h st q buf)) where
+    carried-fits : (v : Verdict) (s : List ℕ) (h : Header) (st : R) (q : Request) (buf : List ℕ) → lowVerdict v ≡ true → Fits (carriedOut d v s h st q buf)
+    unfolding carriedOut
+    carried-fits (Refuses number) s h st q buf e =
+        let l : (number <ᵇ 256) ≡ true = search ands in
+        let n : (number ≡ᵇ 0) ≡ false = not-true _ (search ands) in
+        rw (l, n)
+    carried-fits (Ends x) s h st q buf e = rw (shares st (endedBefore (d .shared st) x)) e
+    carried-fits Works s h st q buf e = works s h st q buf
+
+    pub answer-fits : (s : List ℕ) (st : R) (packet buf : List ℕ) → Fits (answersTo d s st packet buf)
+    unfolding answersTo decided
+    answer-fits s st packet buf =
+        either Fits (not (length packet ≡ᵇ packetLength)) _ _ (λ e. refl) (λ e.
+        either Fits (not (d .accepts s)) _ _ (λ e. refl) (λ e.
+        either Fits (not (d .keepsRules (fieldsOf s) st)) _ _ (λ e. refl) (λ e.
+        carried-fits _ s (fieldsOf s) st _ buf (verdict-low _ _ (d .shared st) (length buf)))))
+
+packet-fits : (s : List ℕ) (st : State) (packet buf : List ℕ) → Fits streamDevice (packetStep s st packet buf)
+packet-fits = answer-fits streamDevice (λ st next. refl) (λ s h st q buf. work-fits (q .command) s h st q buf)
 
 -- ---- the bytes
 
@@ -160,28 +168,32 @@ attention-byte Nothing = omega arith
 attention-byte MediumChanged = omega arith
 attention-byte Reset = omega arith
 
-state-bytes : (st : State) → st .sense .key < 256 → low (st .sense) ≡ true → Bytes (encodeState st)
+-- a record's bytes, before others
+pub state-all : (st : State) {xs : List ℕ} → st .sense .key < 256 → low (st .sense) ≡ true → All xs → All (encodeState st ++ xs)
 unfolding encodeState
-state-bytes st key l =
+state-all st key l a =
     let x = st .sense in
     let asc = ltb-true (x .asc) 256 (search ands) in
     let ascq = ltb-true (x .ascq) 256 (search ands) in
-    bytes-of
-    (quad (st .position)
+    quad (st .position)
     (next (omega (arith, flag-most (st .loaded) 1))
     (next (attention-byte (st .attention))
     (word (st .speed)
     (next key
     (next asc
     (next ascq
-    (next (omega (arith, flag-most (x .valid) 1, flag-most (x .eom) 2, flag-most (x .filemark) 4)) (quad (x .information) none)))))))))
+    (next (omega (arith, flag-most (x .valid) 1, flag-most (x .eom) 2, flag-most (x .filemark) 4)) (quad (x .information) a))))))))
 
-sense-low : (x : Outcome) → (x .answer .number ≡ᵇ 0) ≡ true → fits x ≡ true → low (x .state .sense) ≡ true
+state-bytes : (st : State) → st .sense .key < 256 → low (st .sense) ≡ true → Bytes (encodeState st)
+unfolding encodeState
+state-bytes st key l = bytes-of (state-all st key l none)
+
+pub sense-low : (x : Outcome) → (x .answer .number ≡ᵇ 0) ≡ true → fits x ≡ true → low (x .state .sense) ≡ true
 sense-low x e f =
     let g : (if x .answer .number ≡ᵇ 0 then low (x .state .sense) else true) ≡ true = search ands in
     rw e at g
 
-answer-bytes : (x : Outcome) → fits x ≡ true → Bytes (encodeAnswer (x .answer))
+pub answer-bytes : (x : Outcome) → fits x ≡ true → Bytes (encodeAnswer (x .answer))
 unfolding encodeAnswer
 answer-bytes x e =
     let number = ltb-true (x .answer .number) 256 (search ands) in

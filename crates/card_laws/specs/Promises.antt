@@ -21,8 +21,14 @@ use Rattle.packet_laws.specs.Words.{blocksOf, bytesOf}
 use Rattle.numbers.specs.Counts.{countAt}
 use Rattle.numbers.specs.Outcomes.{Settles}
 use Rattle.packet_record.specs.PacketRecord.{decodeState, encodeState}
+use Rattle.floppy_parts.specs.declared.tape.Floppy.{Floppy}
+use Rattle.floppy_parts.specs.declared.tape.Tape.{Tape}
+use Rattle.floppy.specs.Packet.{freshFloppy, changedFloppy, floppyStep}
+use Rattle.floppy_record.specs.FloppyRecord.{decodeFloppy, decodeTape, encodeFloppy}
 use Rattle.tapecard.specs.PacketCalls.{packetCard, packetFresh, packetChange, packetCall}
 use Rattle.tapecard.specs.PacketCalls.{PacketFreshPromise, PacketChangePromise, PacketCallPromise}
+use Rattle.tapecard.specs.FloppyCalls.{floppyCard, floppyFreshCall, floppyChangeCall, floppyPacketCall}
+use Rattle.tapecard.specs.FloppyCalls.{FloppyFreshPromise, FloppyChangePromise, FloppyCallPromise}
 use Rattle.pulse_record.specs.PulseRecord.{decodeDrive, encodeDrive, describedCartridge, describedPlace}
 use Rattle.tapecard.specs.PulseCalls.{PulseCard, pulsePowerOn, pulseTrain, pulseTick, pulseInsert, pulseRemove, pulseWait}
 use Rattle.tapecard.specs.PulseCalls.{PulsePowerOnPromise, PulseTrainPromise, PulseTickPromise, PulseInsertPromise, PulseRemovePromise, PulseWaitPromise}
@@ -37,6 +43,13 @@ abbrev pub PacketRefusedUntouched : Type 0
 PacketRefusedUntouched =
     (state image packet buf : List ℕ) → Refused (packetCall state image packet buf .answer)
     → packetCall state image packet buf ≡ packetCard state image buf (packetCall state image packet buf .answer)
+
+-- the fresh record and the cartridge change only read their image
+pub record FloppyRefusedUntouched : Type 0 where
+  pub fresh : (state image : List ℕ) → Refused (floppyFreshCall state image .answer) → floppyFreshCall state image .state ≡ state
+  pub change : (state image : List ℕ) → Refused (floppyChangeCall state image .answer) → floppyChangeCall state image .state ≡ state
+  pub packet : (state image packet buf : List ℕ) → Refused (floppyPacketCall state image packet buf .answer)
+      → floppyPacketCall state image packet buf ≡ floppyCard state image buf (floppyPacketCall state image packet buf .answer)
 
 abbrev pub UntouchedIfRefused : List ℕ → PulseCard → Type 0
 UntouchedIfRefused state x = Refused (x .answer) → x .state ≡ state
@@ -75,6 +88,24 @@ StateKeptByCycle = (st : State) → FitsRecord st → decodeState (encodeState s
 abbrev pub DecodedStateFits : Type 0
 DecodedStateFits = (s : List ℕ) → Bytes s → FitsRecord (decodeState s)
 
+-- the tape parameters' numbers fit theirs
+pub record FitsTape (t : Tape) : Type 0 where
+  pub bseg : t .bseg < 2 ^ 8
+  pub segtrk : t .segtrk < 2 ^ 16
+  pub trks : t .trks < 2 ^ 16
+  pub density : t .reported .density < 2 ^ 8
+  pub fill : t .reported .fill < 2 ^ 8
+  pub sector : t .reported .sector < 2 ^ 8
+  pub cylinder : t .reported .cylinder < 2 ^ 8
+  pub head : t .reported .head < 2 ^ 8
+
+abbrev pub FloppyKeptByCycle : Type 0
+FloppyKeptByCycle = (f : Floppy) → FitsRecord (f .shared) → FitsTape (f .tape) → decodeFloppy (encodeFloppy f) ≡ f
+
+-- every record that is read fits
+abbrev pub DecodedTapeFits : Type 0
+DecodedTapeFits = (s : List ℕ) → Bytes s → FitsTape (decodeTape s)
+
 -- "the value is read modulo 16^held"
 abbrev pub HeldAlone : Waiting → Type 0
 HeldAlone Nothing = Unit {0}
@@ -104,6 +135,14 @@ pub record PacketFollows : Type 0 where
   pub packet : (state image packet buf : List ℕ) → Bytes packet
       → decodeState (packetCall state image packet buf .state) ≡ packetStep image (decodeState state) packet buf .state
 
+-- a list of 28 bytes, in the buffer, sets the tape parameters
+pub record FloppyFollows : Type 0 where
+  pub fresh : (state image : List ℕ) → decodeFloppy (floppyFreshCall state image .state) ≡ freshFloppy image (decodeFloppy state) .state
+  pub change : (state image : List ℕ) → Bytes state
+      → decodeFloppy (floppyChangeCall state image .state) ≡ changedFloppy image (decodeFloppy state) .state
+  pub packet : (state image packet buf : List ℕ) → Bytes state → Bytes packet → Bytes buf
+      → decodeFloppy (floppyPacketCall state image packet buf .state) ≡ floppyStep image (decodeFloppy state) packet buf .state
+
 pub record PulseFollows : Type 0 where
   pub power-on : (vendor rom : ℕ) → vendor < 2 ^ 16 → rom < 2 ^ 8 → decodeDrive (pulsePowerOn vendor rom) ≡ powerOn vendor rom
   pub train : (state : List ℕ) (n : ℕ) → Bytes state → decodeDrive (pulseTrain state n .state) ≡ trainCall (decodeDrive state) n .drive
@@ -128,6 +167,12 @@ pub record PacketStaysBytes : Type 0 where
   pub change : (state : List ℕ) → Bytes (packetChange state)
   pub packet : (state image packet buf : List ℕ) → Bytes state → Bytes (packetCall state image packet buf .state)
   pub answer : (state image packet buf : List ℕ) → Bytes (packetCall state image packet buf .answer)
+
+pub record FloppyStaysBytes : Type 0 where
+  pub fresh : (state image : List ℕ) → Bytes state → Bytes (floppyFreshCall state image .state)
+  pub change : (state image : List ℕ) → Bytes state → Bytes (floppyChangeCall state image .state)
+  pub packet : (state image packet buf : List ℕ) → Bytes state → Bytes buf → Bytes (floppyPacketCall state image packet buf .state)
+  pub answer : (state image packet buf : List ℕ) → Bytes (floppyPacketCall state image packet buf .answer)
 
 -- "From any reachable pulse state with a cartridge in: after as many silent ticks as a track has segments, the 46 recovery trains ..", on the bytes
 -- themselves: whatever 32 bytes spell a drive that keeps the rules, with a cartridge in
@@ -159,6 +204,10 @@ pub record CountsWhole : Type 0 where
       → countAt (packetCall state image packet buf .answer) 4 4 ≡ blocksOf (packetStep image (decodeState state) packet buf)
   pub bytes : (state image packet buf : List ℕ) → Bytes packet
       → countAt (packetCall state image packet buf .answer) 8 4 ≡ bytesOf (packetStep image (decodeState state) packet buf)
+  pub floppy-blocks : (state image packet buf : List ℕ) → Bytes packet
+      → countAt (floppyPacketCall state image packet buf .answer) 4 4 ≡ blocksOf (floppyStep image (decodeFloppy state) packet buf)
+  pub floppy-bytes : (state image packet buf : List ℕ) → Bytes packet
+      → countAt (floppyPacketCall state image packet buf .answer) 8 4 ≡ bytesOf (floppyStep image (decodeFloppy state) packet buf)
   pub ticks : (state : List ℕ) (limit : ℕ) → limit < 2 ^ 32 → countAt (pulseWait state limit .answer) 4 4 ≡ waitCall (decodeDrive state) limit .ticks
 
 -- ---- 01: "Prove that any two outcomes allowed by it coincide"
@@ -167,6 +216,9 @@ pub record Settled : Type 0 where
   pub fresh : Settles PacketFreshPromise
   pub change : (state : List ℕ) → Settles (PacketChangePromise state)
   pub packet : (state image packet buf : List ℕ) → Settles (PacketCallPromise state image packet buf)
+  pub floppy-fresh : (state image : List ℕ) → Settles (FloppyFreshPromise state image)
+  pub floppy-change : (state image : List ℕ) → Settles (FloppyChangePromise state image)
+  pub floppy-packet : (state image packet buf : List ℕ) → Settles (FloppyCallPromise state image packet buf)
   pub power-on : (vendor rom : ℕ) → Settles (PulsePowerOnPromise vendor rom)
   pub train : (state : List ℕ) (pulses : ℕ) → Settles (PulseTrainPromise state pulses)
   pub tick : (state : List ℕ) → Settles (PulseTickPromise state)
