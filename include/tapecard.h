@@ -1,5 +1,6 @@
 /*
- * The drive card: a packet tape drive and a pulse tape drive, proved, over byte records that the caller keeps.
+ * The drive card: packet tape drives (a stream and a floppy device) and a pulse tape drive, proved, over byte records that the
+ * caller keeps.
  *
  * Link target/staticlib/libtapecard.a, which `rt staticlib tapecard` makes (for x86-64). C99 and C++.
  *
@@ -28,8 +29,9 @@ extern "C" {
 
 #define TAPECARD_ACCEPTED 0             /* the call was made */
 #define TAPECARD_REFUSED_PACKET 1       /* packet is not 12 bytes */
-#define TAPECARD_REFUSED_IMAGE 2        /* image breaks a header rule */
-#define TAPECARD_REFUSED_RECORD 3       /* packet record has P > U, a speed outside the five, or a sense key above 15 */
+#define TAPECARD_REFUSED_IMAGE 2        /* image breaks a header rule; to the floppy device also: U is below C */
+#define TAPECARD_REFUSED_RECORD 3       /* packet record has P > U, a speed outside the five, or a sense key above 15; the floppy
+                                           device's also: BSEG*SEGTRK*TRKS above C, or P above it */
 #define TAPECARD_REFUSED_BUFFER 4       /* data buffer is shorter than this transfer needs */
 #define TAPECARD_REFUSED_TRAIN 5        /* a train of 0 pulses */
 #define TAPECARD_REFUSED_CARTRIDGE 6    /* cartridge description outside its ranges */
@@ -51,10 +53,10 @@ extern "C" {
 #define TAPECARD_KIND_DATA 1            /* an element that is a block */
 #define TAPECARD_KIND_FILEMARK 2        /* an element that is a filemark; every other kind is an unreadable block */
 
-/* ---- The packet drive ---- */
+/* ---- The packet drive: the stream device ---- */
 
 #define TAPECARD_PACKET_LENGTH 12        /* bytes of a packet */
-#define TAPECARD_PACKET_RECORD_LENGTH 16 /* bytes of the packet drive's record */
+#define TAPECARD_PACKET_RECORD_LENGTH 16 /* bytes of the stream device's record */
 #define TAPECARD_PACKET_ANSWER_LENGTH 16 /* bytes of a packet's answer */
 
 /* The record. */
@@ -107,6 +109,50 @@ void tapecard_change(uint8_t record[TAPECARD_PACKET_RECORD_LENGTH]);
 void tapecard_packet(uint8_t record[TAPECARD_PACKET_RECORD_LENGTH], uint8_t *image, size_t image_length,
                      const uint8_t *packet, size_t packet_length, uint8_t *data, size_t data_length,
                      uint8_t answer[TAPECARD_PACKET_ANSWER_LENGTH]);
+
+/* ---- The packet drive: the floppy device, blocks by number over an image with U = C ---- */
+
+#define TAPECARD_FLOPPY_RECORD_LENGTH 32 /* bytes of the floppy device's record; its answers are the packet drive's */
+
+/* The record: bytes 0-15 as the stream device's, then the tape parameters. The tape has BSEG*SEGTRK*TRKS blocks, at most C. */
+#define TAPECARD_FLOPPY_DENSITY_AT 16      /* 1 byte: density */
+#define TAPECARD_FLOPPY_FILL_AT 17         /* 1 byte: format fill byte */
+#define TAPECARD_FLOPPY_BSEG_AT 18         /* 1 byte: blocks of a segment */
+#define TAPECARD_FLOPPY_FLAGS_AT 19        /* 1 byte: the three bits below */
+#define TAPECARD_FLOPPY_SEGTRK_AT 20       /* 2 bytes: segments of a track */
+#define TAPECARD_FLOPPY_TRKS_AT 22         /* 2 bytes: tracks of the tape */
+#define TAPECARD_FLOPPY_MAX_SECTOR_AT 24   /* 1 byte: maximum floppy sector */
+#define TAPECARD_FLOPPY_MAX_CYLINDER_AT 25 /* 1 byte: maximum floppy cylinder */
+#define TAPECARD_FLOPPY_MAX_HEAD_AT 26     /* 1 byte: maximum floppy head; bytes 27-31 are zero */
+#define TAPECARD_FLOPPY_WDAM 0x80          /* flag: write deleted address marks; as the next two, only kept and told */
+#define TAPECARD_FLOPPY_RM 0x40            /* flag: reduced margin */
+#define TAPECARD_FLOPPY_FW 0x20            /* flag: format-write mode */
+
+/*
+ * Of the opcodes above this device knows all but REWIND, SPACE and READ POSITION. Different here:
+ * READ, WRITE     N blocks in byte 4 alone; they end at the last block of the tape, and a WRITE leaves U
+ * WRITE FILEMARK  a flush: nothing is stored
+ * LOCATE          P = bytes 3-6, below the tape's blocks
+ * LOAD/UNLOAD     byte 4: load 1, retension 2; a load sets the tape parameters back
+ * MODE SENSE      page 2Bh too, 28 bytes with its header: the tape parameters
+ * MODE SELECT     a list of 28 bytes too, which sets them
+ */
+
+/*
+ * Makes a fresh record over this image: as the stream device's, BSEG 1, SEGTRK C, TRKS 1, the other tape parameters 0. The image
+ * is only read. Refused with 2, the record stays as it was.
+ */
+void tapecard_floppy_fresh(uint8_t record[TAPECARD_FLOPPY_RECORD_LENGTH], const uint8_t *image, size_t image_length,
+                           uint8_t answer[TAPECARD_PACKET_ANSWER_LENGTH]);
+
+/* This cartridge is in now: position 0, loaded, attention medium changed, no sense, tape parameters as in a fresh record. */
+void tapecard_floppy_change(uint8_t record[TAPECARD_FLOPPY_RECORD_LENGTH], const uint8_t *image, size_t image_length,
+                            uint8_t answer[TAPECARD_PACKET_ANSWER_LENGTH]);
+
+/* Answers one packet over a cartridge image; a transfer fills or takes the first bytes of `data`. */
+void tapecard_floppy_packet(uint8_t record[TAPECARD_FLOPPY_RECORD_LENGTH], uint8_t *image, size_t image_length,
+                            const uint8_t *packet, size_t packet_length, uint8_t *data, size_t data_length,
+                            uint8_t answer[TAPECARD_PACKET_ANSWER_LENGTH]);
 
 /* ---- The pulse drive ---- */
 

@@ -94,11 +94,18 @@ int main(void)
     uint8_t record[TAPECARD_PULSE_RECORD_LENGTH], answer[TAPECARD_PULSE_ANSWER_LENGTH];
     uint8_t cartridge[TAPECARD_CARTRIDGE_LENGTH] = {0, 1, 1, 0, 0, 0, 0, 0};
     uint8_t packet[TAPECARD_PACKET_LENGTH] = {0}, image[1] = {0}, data[1] = {0};
+    uint8_t floppy_record[TAPECARD_FLOPPY_RECORD_LENGTH] = {0};
     int refused = 0;
 
     tapecard_fresh(packet_record);
     tapecard_change(packet_record);
     tapecard_packet(packet_record, image, sizeof image, packet, sizeof packet, data, sizeof data, packet_answer);
+    refused += packet_answer[TAPECARD_ANSWER_NUMBER_AT] != TAPECARD_REFUSED_IMAGE;
+    tapecard_floppy_fresh(floppy_record, image, sizeof image, packet_answer);
+    refused += packet_answer[TAPECARD_ANSWER_NUMBER_AT] != TAPECARD_REFUSED_IMAGE;
+    tapecard_floppy_change(floppy_record, image, sizeof image, packet_answer);
+    refused += packet_answer[TAPECARD_ANSWER_NUMBER_AT] != TAPECARD_REFUSED_IMAGE;
+    tapecard_floppy_packet(floppy_record, image, sizeof image, packet, sizeof packet, data, sizeof data, packet_answer);
     refused += packet_answer[TAPECARD_ANSWER_NUMBER_AT] != TAPECARD_REFUSED_IMAGE;
     tapecard_pulse_power_on(record, 1, 2);
     tapecard_pulse_train(record, 6, answer);

@@ -18,6 +18,28 @@ mod archive {
             data_length: usize,
             answer: *mut u8,
         );
+        pub fn tapecard_floppy_fresh(
+            record: *mut u8,
+            image: *const u8,
+            image_length: usize,
+            answer: *mut u8,
+        );
+        pub fn tapecard_floppy_change(
+            record: *mut u8,
+            image: *const u8,
+            image_length: usize,
+            answer: *mut u8,
+        );
+        pub fn tapecard_floppy_packet(
+            record: *mut u8,
+            image: *mut u8,
+            image_length: usize,
+            packet: *const u8,
+            packet_length: usize,
+            data: *mut u8,
+            data_length: usize,
+            answer: *mut u8,
+        );
         pub fn tapecard_pulse_power_on(record: *mut u8, vendor: u16, rom: u8);
         pub fn tapecard_pulse_train(record: *mut u8, pulses: u16, answer: *mut u8);
         pub fn tapecard_pulse_tick(record: *mut u8, answer: *mut u8);
@@ -48,6 +70,53 @@ pub fn packet(
     // keep the five apart.
     unsafe {
         archive::tapecard_packet(
+            record.as_mut_ptr(),
+            image.as_mut_ptr(),
+            image.len(),
+            packet.as_ptr(),
+            packet.len(),
+            data.as_mut_ptr(),
+            data.len(),
+            answer.as_mut_ptr(),
+        )
+    }
+}
+
+pub fn floppy_fresh(record: &mut [u8; 32], image: &[u8], answer: &mut [u8; 16]) {
+    // SAFETY: the record has 32 bytes, the answer 16, borrowed apart; the image goes over with its length and is only read.
+    unsafe {
+        archive::tapecard_floppy_fresh(
+            record.as_mut_ptr(),
+            image.as_ptr(),
+            image.len(),
+            answer.as_mut_ptr(),
+        )
+    }
+}
+
+pub fn floppy_change(record: &mut [u8; 32], image: &[u8], answer: &mut [u8; 16]) {
+    // SAFETY: the record has 32 bytes, the answer 16, borrowed apart; the image goes over with its length and is only read.
+    unsafe {
+        archive::tapecard_floppy_change(
+            record.as_mut_ptr(),
+            image.as_ptr(),
+            image.len(),
+            answer.as_mut_ptr(),
+        )
+    }
+}
+
+pub fn floppy_packet(
+    record: &mut [u8; 32],
+    image: &mut [u8],
+    packet: &[u8],
+    data: &mut [u8],
+    answer: &mut [u8; 16],
+) {
+    // SAFETY: each slice goes over with its own length, the record has 32 bytes, the answer 16, `packet` is only read, and the
+    // borrows keep the five apart.
+    unsafe {
+        archive::tapecard_floppy_packet(
             record.as_mut_ptr(),
             image.as_mut_ptr(),
             image.len(),

@@ -1,13 +1,15 @@
 //! The interface in bytes, safe but untyped: records, answers and descriptions as the layouts have them.
 
 pub use crate::ffi::{
-    change, fresh, packet, pulse_insert, pulse_power_on, pulse_remove, pulse_tick, pulse_train,
-    pulse_wait,
+    change, floppy_change, floppy_fresh, floppy_packet, fresh, packet, pulse_insert,
+    pulse_power_on, pulse_remove, pulse_tick, pulse_train, pulse_wait,
 };
 
-/// Bytes of a packet record.
+/// Bytes of the stream device's packet record.
 pub const PACKET_RECORD: usize = 16;
-/// Bytes of a packet answer.
+/// Bytes of the floppy device's packet record.
+pub const FLOPPY_RECORD: usize = 32;
+/// Bytes of a packet answer, whichever device gave it.
 pub const PACKET_ANSWER: usize = 16;
 /// Bytes of a pulse record.
 pub const PULSE_RECORD: usize = 32;
