@@ -1,7 +1,7 @@
 //! The bytes that packets, answers and trains are made of, by their names: each stands here and nowhere else in host/, but for
 //! the model, which is written from 01 alone.
 
-/// First bytes of the packets that the drive knows.
+/// First bytes of the packets that the packet drive knows.
 pub mod opcode {
     pub const TEST_UNIT_READY: u8 = 0x00;
     pub const REWIND: u8 = 0x01;
@@ -17,7 +17,7 @@ pub mod opcode {
     pub const LOCATE: u8 = 0x2B;
     pub const READ_POSITION: u8 = 0x34;
 
-    /// All of them, in their order.
+    /// All of them, in their order: those of the stream device.
     pub const ALL: [u8; 13] = [
         TEST_UNIT_READY,
         REWIND,
@@ -32,6 +32,20 @@ pub mod opcode {
         LOAD_UNLOAD,
         LOCATE,
         READ_POSITION,
+    ];
+
+    /// Those of the floppy device.
+    pub const FLOPPY: [u8; 10] = [
+        TEST_UNIT_READY,
+        REQUEST_SENSE,
+        READ,
+        WRITE,
+        WRITE_FILEMARK,
+        INQUIRY,
+        MODE_SELECT,
+        MODE_SENSE,
+        LOAD_UNLOAD,
+        LOCATE,
     ];
 }
 
@@ -49,16 +63,21 @@ pub mod length {
     pub const MODE_HEADER: usize = 12;
     /// The mode header and the page behind it.
     pub const MODE_WITH_PAGE: usize = 32;
+    /// The mode header and the tape parameters behind it.
+    pub const MODE_WITH_TAPE_PAGE: usize = 28;
     pub const POSITION: usize = 20;
 }
 
-/// The mode page of the drive: its code and its length byte, and where in it the block size shows.
+/// The mode pages of the drive: their codes and length bytes, and where in the first the block size shows.
 pub mod page {
     pub const CODE: u8 = 0x2A;
     pub const LENGTH: u8 = 0x12;
     pub const BLOCK_SIZE_AT: usize = 7;
     /// The byte there where a block has 1,024 bytes.
     pub const BLOCKS_OF_1024: u8 = 0x04;
+    /// The tape parameters, a page of the floppy device.
+    pub const TAPE_CODE: u8 = 0x2B;
+    pub const TAPE_LENGTH: u8 = 0x0E;
 }
 
 /// Key, ASC and ASCQ of every sense that the drive gives.

@@ -1,10 +1,11 @@
-//! README: the drive card's two proved engines, a packet drive and a pulse drive, as safe Rust types over the archive
+//! README: the drive card's proved engines, a packet drive (two devices) and a pulse drive, as safe Rust types over the archive
 //! `libtapecard.a` (made by `rt staticlib tapecard`).
 //!
-//! [`packet`] answers 12-byte command packets over a lent cartridge image; [`pulse`] turns a pulse drive's record into the next by
-//! trains, ticks, insertion and removal. A call that is refused says so by a [`Refusal`] and changes nothing. [`sense_words`] puts
-//! statuses and sense triples into words. [`bytes`] names opcodes, sense triples and trains. [`raw`] is the interface in bytes, for
-//! tests and tools that look at whole answers.
+//! [`packet`] answers 12-byte command packets over a lent cartridge image, as the stream device; [`floppy`] answers them as the
+//! floppy device, blocks by number. [`pulse`] turns a pulse drive's record into the next by trains, ticks, insertion and removal. A
+//! call that is refused says so by a [`Refusal`] and changes nothing. [`sense_words`] puts statuses and sense triples into words.
+//! [`bytes`] names opcodes, sense triples and trains. [`raw`] is the interface in bytes, for tests and tools that look at whole
+//! answers.
 //!
 //! ```no_run
 //! use tapecard::bytes::opcode;
@@ -20,11 +21,14 @@
 //! ```
 
 pub mod bytes;
+mod device;
 mod ffi;
+pub mod floppy;
 pub mod packet;
 pub mod pulse;
 pub mod raw;
 mod refusal;
 pub mod sense_words;
 
+pub use device::Device;
 pub use refusal::Refusal;

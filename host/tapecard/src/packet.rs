@@ -1,7 +1,8 @@
-//! The packet drive: a record of 16 bytes, a lent cartridge image, 12-byte packets.
+//! The packet drive's stream device: a record of 16 bytes, a lent cartridge image, 12-byte packets. Its answer and its sense are
+//! the floppy device's too.
 
 use crate::bytes::triple::Triple;
-use crate::{Refusal, ffi};
+use crate::{Device, Refusal, ffi};
 
 /// Status of a packet that ended well.
 pub const GOOD: u8 = 0;
@@ -100,6 +101,16 @@ impl Sense {
 }
 
 impl Answer {
+    /// The answer in the bytes that a call of this device wrote.
+    pub(crate) fn read(device: Device, bytes: &[u8; 16]) -> Result<Answer, Refusal> {
+        Refusal::check(device, bytes[0])?;
+        Ok(Answer {
+            status: bytes[1],
+            blocks: long_at(bytes, 4),
+            bytes: long_at(bytes, 8),
+        })
+    }
+
     pub fn is_good(&self) -> bool {
         self.status == GOOD
     }
@@ -114,12 +125,7 @@ pub fn packet(
 ) -> Result<Answer, Refusal> {
     let mut answer = [0; 16];
     ffi::packet(&mut record.0, image, packet, data, &mut answer);
-    Refusal::check(answer[0])?;
-    Ok(Answer {
-        status: answer[1],
-        blocks: long_at(&answer, 4),
-        bytes: long_at(&answer, 8),
-    })
+    Answer::read(Device::Stream, &answer)
 }
 
 fn long_at(bytes: &[u8; 16], at: usize) -> u32 {

@@ -2,7 +2,7 @@
 
 use std::fmt;
 
-use crate::{Refusal, ffi};
+use crate::{Device, Refusal, ffi};
 
 /// The drive's record in the bytes that a card keeps.
 #[derive(Clone, Copy, Debug, PartialEq, Eq, Hash)]
@@ -301,6 +301,6 @@ impl fmt::Display for Level {
 }
 
 fn level_of(answer: &[u8; 8]) -> Result<Level, Refusal> {
-    Refusal::check(answer[0])?;
+    Refusal::check(Device::Pulse, answer[0])?;
     Ok(Level(answer[1] != 0))
 }

@@ -3,35 +3,51 @@
 use std::error::Error;
 use std::fmt;
 
-/// A refused call: its number. Nothing was changed.
+use crate::Device;
+
+/// A refused call: its number, and who gave it. Nothing was changed.
 #[derive(Clone, Copy, Debug, PartialEq, Eq, Hash)]
 pub struct Refusal {
     pub number: u8,
+    pub device: Device,
 }
 
 impl Refusal {
-    /// The sentence that says when this number is given.
+    /// The sentence that says when this device gives this number.
     pub fn sentence(self) -> &'static str {
-        match self.number {
-            1 => "packet is not 12 bytes",
-            2 => "image breaks a header rule",
-            3 => "packet record has P > U, a speed outside the five, or a sense key above 15",
-            4 => "a lent data buffer is shorter than this transfer needs",
-            5 => "a train of 0 pulses",
-            6 => "cartridge description outside its ranges",
-            7 => "insertion with a cartridge in, or removal with none",
-            8 => "pulse record breaks the record rules",
-            _ => "no house refusal has this number",
+        match (self.number, self.device) {
+            // 02, A1: "2 also when U is below C here", "3 also when the product exceeds C or P exceeds the product"
+            (2, Device::Floppy) => "image breaks a header rule, or U is below C",
+            (3, Device::Floppy) => {
+                "packet record has P > U, a speed outside the five, a sense key above 15, \
+                 BSEG*SEGTRK*TRKS > C, or P above that product"
+            }
+            (number, _) => sentence_of(number),
         }
     }
 
     /// An answer's number byte: 0 is accepted, all others are refusals.
-    pub(crate) fn check(number: u8) -> Result<(), Refusal> {
+    pub(crate) fn check(device: Device, number: u8) -> Result<(), Refusal> {
         if number == 0 {
             Ok(())
         } else {
-            Err(Refusal { number })
+            Err(Refusal { number, device })
         }
+    }
+}
+
+/// The house's table.
+fn sentence_of(number: u8) -> &'static str {
+    match number {
+        1 => "packet is not 12 bytes",
+        2 => "image breaks a header rule",
+        3 => "packet record has P > U, a speed outside the five, or a sense key above 15",
+        4 => "a lent data buffer is shorter than this transfer needs",
+        5 => "a train of 0 pulses",
+        6 => "cartridge description outside its ranges",
+        7 => "insertion with a cartridge in, or removal with none",
+        8 => "pulse record breaks the record rules",
+        _ => "no house refusal has this number",
     }
 }
 
@@ -47,20 +63,43 @@ impl Error for Refusal {}
 mod tests {
     use super::*;
 
+    fn shown(number: u8, device: Device) -> String {
+        Refusal { number, device }.to_string()
+    }
+
     #[test]
     fn shows_number_and_sentence() {
-        let cut = Refusal { number: 1 };
-        assert_eq!(cut.to_string(), "refusal 1: packet is not 12 bytes");
-        let unknown = Refusal { number: 99 };
         assert_eq!(
-            unknown.to_string(),
+            shown(1, Device::Stream),
+            "refusal 1: packet is not 12 bytes"
+        );
+        assert_eq!(
+            shown(99, Device::Pulse),
             "refusal 99: no house refusal has this number"
         );
     }
 
     #[test]
+    fn the_floppy_device_gives_2_and_3_more_often() {
+        assert_eq!(
+            shown(2, Device::Stream),
+            "refusal 2: image breaks a header rule"
+        );
+        assert_eq!(
+            shown(2, Device::Floppy),
+            "refusal 2: image breaks a header rule, or U is below C"
+        );
+        assert!(shown(3, Device::Floppy).ends_with("or P above that product"));
+        assert_eq!(shown(4, Device::Floppy), shown(4, Device::Stream));
+    }
+
+    #[test]
     fn zero_is_accepted() {
-        assert_eq!(Refusal::check(0), Ok(()));
-        assert_eq!(Refusal::check(8), Err(Refusal { number: 8 }));
+        assert_eq!(Refusal::check(Device::Pulse, 0), Ok(()));
+        let refused = Refusal {
+            number: 8,
+            device: Device::Pulse,
+        };
+        assert_eq!(Refusal::check(Device::Pulse, 8), Err(refused));
     }
 }

@@ -2,7 +2,7 @@
 
 use tapecard::bytes::{opcode, page};
 use tapecard::packet::{Answer, Attention, CHECK_CONDITION, GOOD, Record, Sense, packet};
-use tapecard::{Refusal, sense_words};
+use tapecard::{Device, Refusal, sense_words};
 
 /// C 4, B 512, W 0, kinds 1 2 1, U 3.
 fn image() -> Vec<u8> {
@@ -27,6 +27,11 @@ fn told_of_the_reset(image: &mut [u8]) -> Record {
     let told = sense_words::sense(&record.sense());
     assert_eq!(told, "UNIT ATTENTION: power on or reset (6/29/00)");
     record
+}
+
+fn refused_with(number: u8) -> Result<Answer, Refusal> {
+    let device = Device::Stream;
+    Err(Refusal { number, device })
 }
 
 fn read_2() -> [u8; 12] {
@@ -89,20 +94,20 @@ fn refused_packets_change_nothing() {
     let mut record = told_of_the_reset(&mut image);
     let before = (record, image.clone());
     let cut = packet(&mut record, &mut image, &[0; 11], &mut []);
-    assert_eq!(cut, Err(Refusal { number: 1 }));
+    assert_eq!(cut, refused_with(1));
     let mut short = [0x55; 1023];
     let refused = packet(&mut record, &mut image, &read_2(), &mut short);
-    assert_eq!(refused, Err(Refusal { number: 4 }));
+    assert_eq!(refused, refused_with(4));
     assert_eq!(short, [0x55; 1023]);
     assert_eq!((record, image.clone()), before);
     let mut damaged = image.clone();
     damaged[31] = 1;
     let refused = packet(&mut record, &mut damaged, &[0; 12], &mut []);
-    assert_eq!(refused, Err(Refusal { number: 2 }));
+    assert_eq!(refused, refused_with(2));
     let mut lost = Record::fresh();
     lost.0[3] = 4;
     let refused = packet(&mut lost, &mut image, &[0; 12], &mut []);
-    assert_eq!(refused, Err(Refusal { number: 3 }));
+    assert_eq!(refused, refused_with(3));
 }
 
 #[test]

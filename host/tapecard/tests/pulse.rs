@@ -1,7 +1,7 @@
 //! The pulse drive through its typed interface.
 
-use tapecard::Refusal;
 use tapecard::pulse::{Cartridge, Level, Motion, Record, Waited};
+use tapecard::{Device, Refusal};
 
 const CARTRIDGE: Cartridge = Cartridge {
     segments: 600,
@@ -17,6 +17,11 @@ const CARTRIDGE: Cartridge = Cartridge {
 fn trains(record: &mut Record, trains: &[u16]) -> Vec<Level> {
     let send = |&pulses| record.train(pulses).expect("a train of the drive");
     trains.iter().map(send).collect()
+}
+
+fn refused_with(number: u8) -> Result<Level, Refusal> {
+    let device = Device::Pulse;
+    Err(Refusal { number, device })
 }
 
 fn recovered() -> Record {
@@ -102,18 +107,18 @@ fn a_seek_sets_the_track() {
 fn refused_calls_change_nothing() {
     let mut record = recovered();
     let before = record;
-    assert_eq!(record.train(0), Err(Refusal { number: 5 }));
-    assert_eq!(record.insert(&CARTRIDGE), Err(Refusal { number: 7 }));
+    assert_eq!(record.train(0), refused_with(5));
+    assert_eq!(record.insert(&CARTRIDGE), refused_with(7));
     assert_eq!(record, before);
     let mut empty = Record::power_on(0, 0);
-    assert_eq!(empty.remove(), Err(Refusal { number: 7 }));
+    assert_eq!(empty.remove(), refused_with(7));
     let wrong = Cartridge {
         segments: 0,
         ..CARTRIDGE
     };
-    assert_eq!(empty.insert(&wrong), Err(Refusal { number: 6 }));
+    assert_eq!(empty.insert(&wrong), refused_with(6));
     empty.0[14] = 99;
-    assert_eq!(empty.tick(), Err(Refusal { number: 8 }));
+    assert_eq!(empty.tick(), refused_with(8));
 }
 
 #[test]

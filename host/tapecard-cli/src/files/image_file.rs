@@ -4,7 +4,7 @@ use std::fs::{self, File};
 use std::io::{self, Read};
 use std::path::Path;
 
-use tapecard::Refusal;
+use tapecard::{Device, Refusal};
 
 use crate::command_line::failure::Failure;
 use crate::files::held_file::{HeldFile, Purpose};
@@ -14,7 +14,10 @@ use crate::tape::header::{self, Header};
 use crate::words;
 
 /// The refusal of an image that breaks a header rule.
-const BROKEN_HEADER: Refusal = Refusal { number: 2 };
+const BROKEN_HEADER: Refusal = Refusal {
+    number: 2,
+    device: Device::Stream,
+};
 
 /// The longest file that is read: the largest tape, and room for gaps and a tail.
 const LONGEST_FILE: u64 = 256 * 1024 * 1024;
