@@ -2,6 +2,8 @@
 
 use std::io::Write;
 
+use tapecard::floppy;
+
 use super::{Command, NO_OPTIONS, open_only_image};
 use crate::command_line::args::Args;
 use crate::command_line::failure::Failure;
@@ -15,9 +17,9 @@ use crate::words;
 const HELP: &str = "\
 usage: tapecard info IMAGE
 
-Shows the header in words and the tape as a strip: data, filemarks, unreadable
-and blank elements, with position 0, the end of data and the early warning
-marked.
+Shows the header in words, which devices of the packet drive take the image, and
+the tape as a strip: data, filemarks, unreadable and blank elements, with
+position 0, the end of data and the early warning marked.
 ";
 
 pub const COMMAND: Command = Command {
@@ -37,6 +39,7 @@ fn run(args: &Args, out: &mut dyn Write) -> Result<(), Failure> {
     writeln!(text, "{}", words::shown(path))?;
     show_header(&header, &mut text)?;
     show_counts(&kinds, &header, &mut text)?;
+    show_devices(&drive, &kinds, &mut text)?;
     show_strip(&kinds, &header, &mut text)?;
     output::show(out, &text)
 }
@@ -91,6 +94,18 @@ fn show_counts(kinds: &[Kind], header: &Header, out: &mut dyn Write) -> Result<(
         words::count(count(Kind::Filemark), "filemark"),
         count(Kind::Unreadable)
     )?;
+    Ok(())
+}
+
+/// The stream device has taken the image, or there would be nothing to show; the floppy device is asked.
+fn show_devices(drive: &Drive, kinds: &[Kind], out: &mut dyn Write) -> Result<(), Failure> {
+    let floppy = floppy::Record::fresh(drive.image()).is_ok();
+    let devices = match (floppy, kinds.contains(&Kind::Filemark)) {
+        (false, _) => "stream only: floppy needs every element recorded",
+        (true, false) => "stream and floppy: every element is recorded",
+        (true, true) => "stream and floppy, to which a filemark is an unreadable block",
+    };
+    writeln!(out, "  devices        {devices}")?;
     Ok(())
 }
 

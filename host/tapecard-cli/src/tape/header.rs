@@ -1,5 +1,7 @@
 //! The 32 bytes at the start of a cartridge image: laid out for a fresh image, read to be shown.
 
+use tapecard::bytes::kind;
+
 pub const LENGTH: usize = 32;
 pub const LARGEST_CAPACITY: u32 = 65_535;
 /// Bytes that the largest cartridge holds.
@@ -47,6 +49,14 @@ impl Header {
         }
     }
 
+    /// The same tape with every element recorded, as the floppy device needs it.
+    pub fn full(self) -> Header {
+        Header {
+            recorded: self.capacity,
+            ..self
+        }
+    }
+
     /// The fields, whether they keep their rules or not; `None` where the bytes are too few.
     pub fn read(image: &[u8]) -> Option<Header> {
         let bytes = image.first_chunk::<LENGTH>()?;
@@ -80,11 +90,12 @@ impl Header {
         bytes
     }
 
-    /// A whole image with this header, nothing recorded.
+    /// A whole image with this header; what is recorded are blocks of zeros.
     pub fn image(&self) -> Vec<u8> {
         let blocks = self.capacity as usize * usize::from(self.block_size);
         let mut image = vec![0; self.blocks_at as usize + blocks];
         image[..LENGTH].copy_from_slice(&self.bytes());
+        image[self.kinds_at as usize..][..self.recorded as usize].fill(kind::DATA);
         image
     }
 
@@ -109,6 +120,10 @@ impl Header {
         self.protect == 1
     }
 
+    pub fn is_full(&self) -> bool {
+        self.recorded == self.capacity
+    }
+
     /// The first place whose write warns.
     pub fn warning_place(&self) -> u32 {
         self.capacity.saturating_sub(self.early_warning.into())
@@ -127,6 +142,16 @@ mod tests {
         assert_eq!(image.len(), 32 + 4 + 4 * 512);
         assert_eq!(Header::read(&image), Some(header));
         assert_eq!(Header::read(&image[..31]), None);
+    }
+
+    #[test]
+    fn a_full_tape_is_recorded_with_zeros() {
+        let header = Header::blank(512, 4, 0, false, 0).full();
+        let image = header.image();
+        assert!(header.is_full() && header.allows(image.len() as u64));
+        assert_eq!(image[8..12], [0, 0, 0, 4]);
+        assert_eq!(image[32..36], [kind::DATA; 4]);
+        assert!(image[36..].iter().all(|byte| *byte == 0));
     }
 
     /// Bytes at their rules' borders: the header's own test says what the drive says.

@@ -105,6 +105,7 @@ t.img
   layout         kinds at byte 32, blocks at byte 44
   recorded       4 elements, 8 blank
   of these       2 data blocks, 1 filemark, 1 unreadable
+  devices        stream only: floppy needs every element recorded
 
   [#!#|........]
    ^ position 0

@@ -3,6 +3,7 @@
 mod command_line;
 mod common;
 mod files;
+mod floppy;
 mod flushing;
 mod images;
 mod interrupts;
