@@ -97,6 +97,26 @@ impl Args {
         }
     }
 
+    /// What an option's word stands for, one of these.
+    pub fn choice<T: Copy>(
+        &self,
+        option: &str,
+        choices: &[(&str, T)],
+    ) -> Result<Option<T>, Failure> {
+        let Some(value) = self.given(option) else {
+            return Ok(None);
+        };
+        if let Some((_, chosen)) = choices.iter().find(|(word, _)| value == *word) {
+            return Ok(Some(*chosen));
+        }
+        let known: Vec<&str> = choices.iter().map(|(word, _)| *word).collect();
+        Err(self.wrong(format!(
+            "{option} is {}, not {}",
+            known.join(" or "),
+            words::shown(value)
+        )))
+    }
+
     /// The operand at this place, which must be there.
     pub fn operand(&self, index: usize, name: &str) -> Result<&OsStr, Failure> {
         match self.operands.get(index) {
@@ -196,6 +216,19 @@ mod tests {
         assert_eq!(
             sentence(&["--force", "--force"]),
             format!("--force is given twice; {see}")
+        );
+    }
+
+    #[test]
+    fn a_choice_is_one_of_its_words() {
+        let choices = [("few", 1), ("many", 2)];
+        let args = parse(&["--blocks", "many"]).unwrap();
+        assert_eq!(args.choice("--blocks", &choices).unwrap(), Some(2));
+        assert_eq!(args.choice("-o", &choices).unwrap(), None);
+        let args = parse(&["--blocks", "Few"]).unwrap();
+        let wrong = args.choice("--blocks", &choices).unwrap_err();
+        assert!(
+            matches!(wrong, Failure::Usage(s) if s.starts_with("--blocks is few or many, not Few;"))
         );
     }
 

@@ -1,5 +1,6 @@
 //! `tapecard packet`: packets one by one, each with its answer in words and bytes.
 
+mod device;
 mod options;
 mod room;
 mod session;
@@ -16,16 +17,20 @@ use crate::words;
 use session::PacketSession;
 
 const HELP: &str = "\
-usage: tapecard packet IMAGE [--record FILE] [--cold] [--data FILE] [--out FILE]
-                             [--force] [--any-answer] [--room BYTES] [BYTE..]
+usage: tapecard packet IMAGE [--device stream|floppy] [--record FILE] [--cold]
+                             [--data FILE] [--out FILE] [--force] [--any-answer]
+                             [--room BYTES] [BYTE..]
 
 Sends a packet of twelve hexadecimal bytes, or without bytes each line of
 standard input, and shows status, blocks, bytes, position and sense. A line may
 also be `change` (another cartridge was put in) or `quit`; # begins a comment.
 What a packet stored is on the disk before its answer is shown, so an interrupt
 (Ctrl-C) loses nothing that was answered; a bad line ends a script there.
-  --record FILE  keep the drive's record of 16 bytes between runs; a file that
-                 is not there is begun with a drive just switched on
+  --device D     stream (usually), or floppy: blocks by number, rewritten in
+                 place, no filemarks. It takes an image with every element
+                 recorded, which tapecard new --full makes
+  --record FILE  keep the drive's record between runs, 16 bytes (floppy: 32); a
+                 file that is not there is begun with a drive just switched on
   --cold         without --record: leave the attention of power-on pending, so
                  that the first packet meets it (else it is taken before)
   --data FILE    bytes that WRITE and MODE SELECT take, one after the other
@@ -46,7 +51,7 @@ pub const COMMAND: Command = Command {
     help: &[HELP],
     options: Options {
         flags: &["--cold", "--force", "--any-answer"],
-        valued: &["--record", "--data", "--out", "--room"],
+        valued: &["--device", "--record", "--data", "--out", "--room"],
     },
     run,
 };

@@ -5,6 +5,7 @@ mod session;
 
 use std::io::Write;
 
+use tapecard::Device;
 use tapecard::pulse::Record;
 
 use super::Command;
@@ -55,7 +56,9 @@ pub const COMMAND: Command = Command {
 
 fn run(args: &Args, out: &mut dyn Write) -> Result<(), Failure> {
     args.at_most(0)?;
-    let mut file = args.path("--record").map(RecordFile::take).transpose()?;
+    let file = args.path("--record");
+    let file = file.map(|path| RecordFile::take(path, Device::Pulse));
+    let mut file = file.transpose()?;
     let record = starting_record(args, file.as_ref())?;
     let mut session = PulseSession::new(record, file.as_mut());
     session.tell_start(out)?;

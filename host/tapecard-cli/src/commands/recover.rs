@@ -5,9 +5,9 @@
 
 use std::io::Write;
 
-use tapecard::Refusal;
 use tapecard::bytes::train;
 use tapecard::pulse::Record;
+use tapecard::{Device, Refusal};
 
 use super::Command;
 use crate::command_line::args::{Args, Options};
@@ -45,7 +45,9 @@ pub const COMMAND: Command = Command {
 
 fn run(args: &Args, out: &mut dyn Write) -> Result<(), Failure> {
     args.at_most(0)?;
-    let mut file = args.path("--record").map(RecordFile::take).transpose()?;
+    let file = args.path("--record");
+    let file = file.map(|path| RecordFile::take(path, Device::Pulse));
+    let mut file = file.transpose()?;
     let mut station = Station {
         record: lost_drive(file.as_ref())?,
         listener: Listener::default(),

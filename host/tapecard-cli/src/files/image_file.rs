@@ -95,7 +95,8 @@ fn drive_with(path: &Path, image: Vec<u8>, length: u64) -> Result<Drive, Failure
     Drive::with(image).map_err(|refusal| not_taken(path, length, refusal))
 }
 
-fn not_taken(path: &Path, length: u64, refusal: Refusal) -> Failure {
+/// An image that a device has refused, of a file with this length.
+pub fn not_taken(path: &Path, length: u64, refusal: Refusal) -> Failure {
     Failure::work(format!(
         "{} is no whole cartridge image ({refusal}). The file has {}: it may have been cut short, or be something else. \
          Take another copy, or make a fresh image with tapecard new",

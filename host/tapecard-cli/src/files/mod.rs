@@ -8,3 +8,4 @@ mod links;
 pub mod output_file;
 mod part;
 pub mod record_file;
+mod record_owner;

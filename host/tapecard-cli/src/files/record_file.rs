@@ -3,9 +3,11 @@
 use std::io::Read;
 use std::path::Path;
 
+use tapecard::Device;
+
 use crate::command_line::failure::Failure;
 use crate::files::held_file::{HeldFile, Purpose, unwritten};
-use crate::words;
+use crate::files::record_owner;
 
 /// A record's file, held, and what it holds; no bytes where it is not there yet.
 pub struct RecordFile<const N: usize> {
@@ -14,10 +16,10 @@ pub struct RecordFile<const N: usize> {
 }
 
 impl<const N: usize> RecordFile<N> {
-    /// Takes the file and makes sure that it can be written.
-    pub fn take(path: &Path) -> Result<RecordFile<N>, Failure> {
+    /// Takes the file and makes sure that it holds a record of this device, or none yet, and can be written.
+    pub fn take(path: &Path, device: Device) -> Result<RecordFile<N>, Failure> {
         let mut held = HeldFile::take(path, Purpose::Record)?;
-        let kept = read(&mut held)?;
+        let kept = read(&mut held, device)?;
         held.ensure_replaceable()
             .map_err(|e| unwritten(path, &e, "nothing was changed"))?;
         Ok(RecordFile { held, kept })
@@ -41,7 +43,7 @@ impl<const N: usize> RecordFile<N> {
     }
 }
 
-fn read<const N: usize>(held: &mut HeldFile) -> Result<Option<[u8; N]>, Failure> {
+fn read<const N: usize>(held: &mut HeldFile, device: Device) -> Result<Option<[u8; N]>, Failure> {
     let path = held.path().to_owned();
     let Some((file, length)) = held.content() else {
         return Ok(None);
@@ -50,16 +52,9 @@ fn read<const N: usize>(held: &mut HeldFile) -> Result<Option<[u8; N]>, Failure>
     file.take(N as u64 + 1)
         .read_to_end(&mut bytes)
         .map_err(|e| Purpose::Record.failed(&path, &e))?;
+    record_owner::judge(&path, device, &bytes)?;
     match bytes.try_into() {
         Ok(record) => Ok(Some(record)),
-        Err(_) => Err(wrong_length(&path, length, N)),
+        Err(_) => Err(record_owner::wrong_length(&path, device, length)),
     }
-}
-
-fn wrong_length(path: &Path, length: u64, needed: usize) -> Failure {
-    Failure::work(format!(
-        "{} has {} and this record has {needed}; name another file, or remove it to start afresh",
-        words::shown(path),
-        words::count(length, "byte")
-    ))
 }

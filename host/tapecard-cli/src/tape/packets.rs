@@ -1,5 +1,6 @@
-//! The packets that the file commands send.
+//! The packets that the file commands send, and how many blocks a packet asks for.
 
+use tapecard::Device;
 use tapecard::bytes::{length, opcode, page, space};
 
 pub type Packet = [u8; 12];
@@ -53,6 +54,15 @@ pub fn mode_sense() -> Packet {
     bytes[2] = page::CODE;
     bytes[4] = length::MODE_WITH_PAGE as u8;
     bytes
+}
+
+/// N of a READ or WRITE: bytes 2-4, of which the floppy device looks at byte 4 alone. None where they are not there.
+pub fn blocks_asked(device: Device, packet: &[u8]) -> Option<u32> {
+    let &[high, middle, low] = packet.get(2..5)?.first_chunk()?;
+    Some(match device {
+        Device::Floppy => low.into(),
+        _ => u32::from_be_bytes([0, high, middle, low]),
+    })
 }
 
 fn packet(opcode: u8, flags: u8, count: u32) -> Packet {

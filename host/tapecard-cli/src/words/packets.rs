@@ -1,48 +1,50 @@
 //! Packets of the packet drive in words.
 
 use tapecard::bytes::{opcode, space};
-use tapecard::sense_words;
+use tapecard::{Device, sense_words};
 
 use super::count;
+use crate::tape::packets::blocks_asked;
 
-/// A packet in words, such as `READ 2 blocks`.
-pub fn packet(packet: &[u8]) -> String {
-    let Some((&opcode, fields)) = packet.split_first() else {
+/// A packet to this device in words, such as `READ 2 blocks`.
+pub fn packet(device: Device, packet: &[u8]) -> String {
+    let Some(&opcode) = packet.first() else {
         return "no bytes".into();
     };
-    let Some(name) = sense_words::command(opcode) else {
+    let known = device.opcodes().contains(&opcode);
+    let Some(name) = sense_words::command(opcode).filter(|_| known) else {
         return format!("unknown command {opcode:02X}h");
     };
-    match details(opcode, fields) {
+    match details(device, opcode, packet) {
         Some(details) => format!("{name} {details}"),
         None => name.into(),
     }
 }
 
-fn details(opcode: u8, fields: &[u8]) -> Option<String> {
-    let asked = u64::from(three_bytes(fields)?);
+fn details(device: Device, opcode: u8, packet: &[u8]) -> Option<String> {
+    let asked = blocks_asked(device, packet)?;
+    let floppy = device == Device::Floppy;
     match opcode {
-        opcode::READ | opcode::WRITE => Some(count(asked, "block")),
+        opcode::READ | opcode::WRITE => Some(count(asked.into(), "block")),
+        opcode::WRITE_FILEMARK if floppy => Some("(flush)".into()),
         opcode::WRITE_FILEMARK => Some(format!("x{asked}")),
-        opcode::SPACE => Some(space_details(fields)),
-        opcode::LOAD_UNLOAD => Some(
-            if fields.get(3)? & 1 != 0 {
-                "(load)"
-            } else {
-                "(unload)"
-            }
-            .into(),
-        ),
-        opcode::LOCATE => Some(format!("place {}", four_bytes(fields.get(2..)?)?)),
+        opcode::SPACE => Some(space_details(packet[1], asked)),
+        opcode::LOAD_UNLOAD if packet[4] & 1 != 0 => Some("(load)".into()),
+        opcode::LOAD_UNLOAD => Some("(unload)".into()),
+        opcode::LOCATE => {
+            let target = u32::from_be_bytes(*packet.get(3..7)?.first_chunk()?);
+            let unit = if floppy { "block" } else { "place" };
+            Some(format!("{unit} {target}"))
+        }
         _ => None,
     }
 }
 
-fn space_details(fields: &[u8]) -> String {
-    let asked = three_bytes(fields).map_or(0, signed);
+fn space_details(code: u8, asked: u32) -> String {
+    let asked = signed(asked);
     let back = if asked < 0 { "back " } else { "" };
     let asked = asked.unsigned_abs().into();
-    match fields[0] & 7 {
+    match code & 7 {
         space::BLOCKS => format!("{back}{}", count(asked, "block")),
         space::FILEMARKS => format!("{back}{}", count(asked, "filemark")),
         space::END_OF_DATA => "to end of data".into(),
@@ -54,22 +56,13 @@ fn signed(three_bytes: u32) -> i32 {
     (three_bytes << 8) as i32 >> 8
 }
 
-fn three_bytes(fields: &[u8]) -> Option<u32> {
-    let bytes = fields.get(1..4)?;
-    Some(u32::from_be_bytes([0, bytes[0], bytes[1], bytes[2]]))
-}
-
-fn four_bytes(fields: &[u8]) -> Option<u32> {
-    let bytes = fields.get(..4)?;
-    Some(u32::from_be_bytes([bytes[0], bytes[1], bytes[2], bytes[3]]))
-}
-
 #[cfg(test)]
 mod tests {
     use super::*;
 
     #[test]
     fn packets_in_words() {
+        let packet = |bytes: &[u8]| packet(Device::Stream, bytes);
         assert_eq!(
             packet(&[opcode::READ, 1, 0, 0, 2, 0, 0, 0, 0, 0, 0, 0]),
             "READ 2 blocks"
@@ -90,5 +83,23 @@ mod tests {
         assert_eq!(packet(&[opcode::READ]), "READ");
         assert_eq!(packet(&[0x99]), "unknown command 99h");
         assert_eq!(packet(&[]), "no bytes");
+    }
+
+    #[test]
+    fn packets_to_the_floppy_device_in_words() {
+        let packet = |bytes: &[u8]| packet(Device::Floppy, bytes);
+        assert_eq!(packet(&[opcode::READ, 1, 0xFF, 0xFF, 2]), "READ 2 blocks");
+        assert_eq!(
+            packet(&[opcode::WRITE_FILEMARK, 0, 0, 0, 1]),
+            "WRITE FILEMARK (flush)"
+        );
+        assert_eq!(
+            packet(&[opcode::LOCATE, 0, 0, 0, 0, 1, 2, 0]),
+            "LOCATE block 258"
+        );
+        for opcode in [opcode::REWIND, opcode::SPACE, opcode::READ_POSITION] {
+            let unknown = format!("unknown command {opcode:02X}h");
+            assert_eq!(packet(&[opcode, 0, 0, 0, 1]), unknown);
+        }
     }
 }

@@ -206,7 +206,8 @@ fn a_record_of_another_length() {
     place.write("r", [0; 32]);
     place.run(&with(&["packet", "t.img", "--record", "r"], &READ_2)).is_bad(
         1,
-        "r has 32 bytes and this record has 16; name another file, or remove it to start afresh",
+        "r has 32 bytes and a record of the stream device has 16: it may be one of the floppy device (tapecard packet \
+         --device floppy) or of the pulse drive (tapecard pulse); name another file, or remove it to start afresh",
     );
 }
 
@@ -234,7 +235,7 @@ fn what_is_no_script_does_not_fill_the_memory() {
 }
 
 /// Packets of all commands, most of them with a count that a tape may have.
-fn random_script(dice: &mut Dice) -> String {
+pub fn random_script(dice: &mut Dice) -> String {
     let opcodes = [&opcode::ALL[..], &[0x99]].concat();
     let mut script = String::from("change\n");
     for _ in 0..20 {

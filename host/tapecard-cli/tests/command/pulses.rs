@@ -175,7 +175,7 @@ fn the_record_is_kept_between_runs() {
     place.write("r", [0; 31]);
     place.run(&pulse).is_bad(
         1,
-        "r has 31 bytes and this record has 32; name another file, or remove it to start afresh",
+        "r has 31 bytes and a record of the pulse drive has 32; name another file, or remove it to start afresh",
     );
 }
 

@@ -3,6 +3,7 @@
 use std::ffi::OsString;
 use std::path::Path;
 
+use super::device;
 use super::room::{self, LARGEST_ROOM};
 use crate::command_line::args::Args;
 use crate::command_line::failure::Failure;
@@ -13,6 +14,7 @@ use crate::words::hex;
 /// No option is given that would do nothing, and no two name one file.
 pub fn judge(args: &Args, packet: &[OsString]) -> Result<(), Failure> {
     let image = Path::new(args.operand(0, "the image")?);
+    device::asked(args)?;
     args.number("--room", 0..=LARGEST_ROOM as u32)?;
     let out = args.path("--out");
     if args.has("--room") && packet.is_empty() {

@@ -1,9 +1,10 @@
 //! The bytes that a packet needs beside itself.
 
-use tapecard::Refusal;
 use tapecard::bytes::opcode;
+use tapecard::{Device, Refusal};
 
 use crate::tape::header::LARGEST_CAPACITY;
+use crate::tape::packets::blocks_asked;
 use crate::words;
 
 /// Room lent to a packet that returns less than a block.
@@ -16,27 +17,28 @@ pub fn takes_data(packet: &[u8]) -> bool {
     matches!(packet.first(), Some(&(opcode::WRITE | opcode::MODE_SELECT)))
 }
 
-/// The packet may store on the tape.
-pub fn stores(packet: &[u8]) -> bool {
-    matches!(
-        packet.first(),
-        Some(&(opcode::WRITE | opcode::WRITE_FILEMARK))
-    )
+/// The packet may store on the tape. To the floppy device a WRITE FILEMARK is a flush, which stores nothing.
+pub fn stores(device: Device, packet: &[u8]) -> bool {
+    match packet.first() {
+        Some(&opcode::WRITE) => true,
+        Some(&opcode::WRITE_FILEMARK) => device == Device::Stream,
+        _ => false,
+    }
 }
 
 /// The room to lend where none is asked for.
-pub fn usual(packet: &[u8], block_size: u64) -> u64 {
+pub fn usual(device: Device, packet: &[u8], block_size: u64) -> u64 {
     match packet.first() {
-        Some(&opcode::READ) => needed(packet, block_size).min(LARGEST_ROOM),
+        Some(&opcode::READ) => needed(device, packet, block_size).min(LARGEST_ROOM),
         _ => SMALL_ROOM,
     }
 }
 
 /// Bytes that the packet moves at the most.
-fn needed(packet: &[u8], block_size: u64) -> u64 {
+fn needed(device: Device, packet: &[u8], block_size: u64) -> u64 {
     match packet {
-        [opcode::READ | opcode::WRITE, _, high, middle, low, ..] => {
-            u64::from(u32::from_be_bytes([0, *high, *middle, *low])) * block_size
+        [opcode::READ | opcode::WRITE, ..] => {
+            u64::from(blocks_asked(device, packet).unwrap_or(0)) * block_size
         }
         [_, _, _, _, length, ..] => (*length).into(),
         _ => 0,
@@ -49,17 +51,16 @@ pub fn advice(refusal: Refusal, packet: &[u8], block_size: u64, data_left: u64) 
         1 => "write twelve bytes".into(),
         2 => "take another copy of the image, or make one with tapecard new".into(),
         3 => "the record is not of this image: send the line `change`, or name\n            another --record".into(),
-        4 => about_room(packet, block_size, data_left),
+        4 => about_room(needed(refusal.device, packet, block_size), takes_data(packet), data_left),
         _ => return None,
     })
 }
 
-fn about_room(packet: &[u8], block_size: u64, data_left: u64) -> String {
-    let needed = needed(packet, block_size);
+fn about_room(needed: u64, taken: bool, data_left: u64) -> String {
     let bytes = words::count(needed, "byte");
-    if takes_data(packet) && needed > LARGEST_ROOM {
+    if taken && needed > LARGEST_ROOM {
         format!("ask for fewer blocks: no tape has more than {LARGEST_CAPACITY}")
-    } else if takes_data(packet) {
+    } else if taken {
         format!("give {bytes} with --data FILE; {data_left} are left there")
     } else if needed > LARGEST_ROOM {
         format!(

@@ -1,12 +1,13 @@
-//! A packet drive, its files, and what they have to keep.
+//! A packet device, its files, and what they have to keep.
 
 use std::fs::File;
 use std::io::{self, Write};
 use std::path::Path;
 
-use tapecard::Refusal;
-use tapecard::packet::{Answer, Record, packet};
+use tapecard::packet::Answer;
+use tapecard::{Device, Refusal, floppy};
 
+use super::device::{self, PacketDevice};
 use super::room::{self, LARGEST_ROOM};
 use super::show;
 use crate::command_line::args::Args;
@@ -14,9 +15,8 @@ use crate::command_line::failure::Failure;
 use crate::files::held_file::{HeldFile, read_at_most, unwritten};
 use crate::files::image_file;
 use crate::files::output_file::OutputFile;
-use crate::files::record_file::RecordFile;
 use crate::tape::drive;
-use crate::tape::header::LARGEST_CONTENT;
+use crate::tape::header::{Header, LARGEST_CONTENT};
 use crate::terminal::script::{Flow, Session};
 use crate::words::{self, hex};
 
@@ -24,8 +24,7 @@ pub struct PacketSession<'a> {
     args: &'a Args,
     image_file: HeldFile,
     image: Vec<u8>,
-    record_file: Option<RecordFile<16>>,
-    record: Record,
+    device: PacketDevice,
     block_size: u64,
     /// What WRITE and MODE SELECT take, and how much of it they took.
     data: Vec<u8>,
@@ -50,15 +49,20 @@ impl<'a> PacketSession<'a> {
     /// Takes every file and makes sure of it before anything is sent.
     pub fn open(args: &'a Args) -> Result<PacketSession<'a>, Failure> {
         let path = Path::new(args.operand(0, "the image")?);
-        let (image_file, mut image, _) = image_file::take_unjudged(path)?;
-        let record_file = args.path("--record").map(RecordFile::take).transpose()?;
+        let (image_file, mut image, length) = image_file::take_unjudged(path)?;
+        let device = match device::asked(args)? {
+            Device::Floppy => {
+                let fresh = judged_by_floppy(path, &image, length)?;
+                PacketDevice::floppy(args, fresh, &mut image)?
+            }
+            _ => PacketDevice::stream(args, &mut image)?,
+        };
         let out = args.path("--out");
         let out = out.map(|path| OutputFile::open(path, args.has("--force")));
         Ok(PacketSession {
             args,
             image_file,
-            record: starting_record(args, record_file.as_ref(), &mut image)?,
-            record_file,
+            device,
             block_size: drive::block_size_of(&mut image).unwrap_or(1024) as u64,
             image,
             data: outgoing_data(args)?,
@@ -78,15 +82,16 @@ impl<'a> PacketSession<'a> {
 
     pub fn packet(&mut self, text: &str, told: &mut dyn Write) -> Result<(), Failure> {
         let bytes = hex::read(text)?;
-        if room::stores(&bytes) {
+        let device = self.device.kind();
+        if room::stores(device, &bytes) {
             self.ensure_storable()?;
         }
-        show::packet(&bytes, told)?;
+        show::packet(device, &bytes, told)?;
         self.counts.sent += 1;
         match self.send(&bytes)? {
             (Ok(answer), room) => {
                 self.note(&bytes, &answer, &room);
-                show::answer(&answer, &self.record, &mut self.image, told)?;
+                show::answer(&answer, &self.device, &mut self.image, told)?;
                 match room::takes_data(&bytes) || self.out.is_some() {
                     true => Ok(()),
                     false => show::data(&room[..answer.bytes as usize], told),
@@ -116,11 +121,11 @@ impl<'a> PacketSession<'a> {
             &mut self.data[self.taken..]
         } else {
             let asked = self.args.number("--room", 0..=LARGEST_ROOM as u32)?;
-            let usual = room::usual(bytes, self.block_size);
+            let usual = room::usual(self.device.kind(), bytes, self.block_size);
             room.resize(asked.map_or(usual, u64::from) as usize, 0);
             &mut room[..]
         };
-        let answer = packet(&mut self.record, &mut self.image, bytes, lent);
+        let answer = self.device.send(&mut self.image, bytes, lent);
         Ok((answer, room))
     }
 
@@ -132,7 +137,7 @@ impl<'a> PacketSession<'a> {
             self.returned.extend(room.iter().take(moved));
             self.returned_is_new |= moved > 0;
         }
-        self.image_is_new |= room::stores(bytes) && answer.blocks > 0;
+        self.image_is_new |= room::stores(self.device.kind(), bytes) && answer.blocks > 0;
         self.counts.checked += u64::from(!answer.is_good());
     }
 
@@ -145,9 +150,9 @@ impl<'a> PacketSession<'a> {
             self.image_is_new = false;
             kept.push(name);
         }
-        if let Some(file) = &mut self.record_file {
-            let name = words::shown(file.path());
-            file.keep(&self.record.0).map_err(|e| (name.clone(), e))?;
+        if let Some((path, done)) = self.device.keep() {
+            let name = words::shown(path);
+            done.map_err(|e| (name.clone(), e))?;
             kept.push(name);
         }
         if let (Some(out), true) = (&mut self.out, self.returned_is_new) {
@@ -182,11 +187,8 @@ impl Session for PacketSession<'_> {
         match line {
             "quit" => return Ok(Flow::Ends),
             "change" => {
-                self.record.change();
-                writeln!(
-                    told,
-                    "the cartridge was changed: position 0, attention pending"
-                )?;
+                self.device.change(&self.image)?;
+                show::change(&self.device, told)?;
             }
             bytes => self.packet(bytes, told)?,
         }
@@ -208,25 +210,18 @@ impl Session for PacketSession<'_> {
     }
 }
 
-/// The record of the file, or one of a drive just switched on.
-fn starting_record(
-    args: &Args,
-    file: Option<&RecordFile<16>>,
-    image: &mut [u8],
-) -> Result<Record, Failure> {
-    if let Some(kept) = file.and_then(RecordFile::kept) {
-        if args.has("--cold") {
-            return Err(args.wrong(
-                "--cold is for a drive just switched on, and --record names one that is on already"
-                    .into(),
-            ));
-        }
-        return Ok(Record(kept));
-    }
-    if file.is_some() || args.has("--cold") {
-        return Ok(Record::fresh());
-    }
-    Ok(drive::ready_record(image).unwrap_or_else(|_| Record::fresh()))
+/// The floppy device's record just switched on, or why it does not take this image: no packet would be answered.
+fn judged_by_floppy(path: &Path, image: &[u8], length: u64) -> Result<floppy::Record, Failure> {
+    floppy::Record::fresh(image).map_err(|refusal| match Header::read(image) {
+        Some(header) if header.allows(image.len() as u64) => Failure::work(format!(
+            "the floppy device needs every element recorded, and {} has {} of {} ({refusal}); nothing was sent. tapecard new \
+             --full makes such an image",
+            words::shown(path),
+            header.recorded,
+            header.capacity
+        )),
+        _ => image_file::not_taken(path, length, refusal),
+    })
 }
 
 fn outgoing_data(args: &Args) -> Result<Vec<u8>, Failure> {

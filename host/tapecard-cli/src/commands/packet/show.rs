@@ -1,31 +1,39 @@
-//! Answers of the packet drive in words and bytes.
+//! Answers of a packet device in words and bytes.
 
 use std::io::Write;
 
-use tapecard::bytes::length;
-use tapecard::packet::{self, Answer, Record};
-use tapecard::{Refusal, sense_words};
+use tapecard::bytes::triple;
+use tapecard::packet::Answer;
+use tapecard::{Device, Refusal, sense_words};
 
+use super::device::PacketDevice;
 use crate::command_line::failure::Failure;
-use crate::tape::packets;
 use crate::words::{self, hex};
 
 /// Returned bytes that are shown where they go to no file.
 const SHOWN_BYTES: usize = 64;
 
-pub fn packet(bytes: &[u8], out: &mut dyn Write) -> Result<(), Failure> {
+pub fn packet(device: Device, bytes: &[u8], out: &mut dyn Write) -> Result<(), Failure> {
+    let in_words = words::packets::packet(device, bytes);
+    writeln!(out, "{}  {in_words}", hex::show(bytes))?;
+    Ok(())
+}
+
+pub fn change(device: &PacketDevice, out: &mut dyn Write) -> Result<(), Failure> {
+    let tape = match device.tape() {
+        Some(_) => ", tape parameters set back",
+        None => "",
+    };
     writeln!(
         out,
-        "{}  {}",
-        hex::show(bytes),
-        words::packets::packet(bytes)
+        "the cartridge was changed: position 0{tape}, attention pending"
     )?;
     Ok(())
 }
 
 pub fn answer(
     answer: &Answer,
-    record: &Record,
+    device: &PacketDevice,
     image: &mut [u8],
     out: &mut dyn Write,
 ) -> Result<(), Failure> {
@@ -33,22 +41,21 @@ pub fn answer(
     writeln!(out, "  status    {} {status}", answer.status)?;
     writeln!(out, "  blocks    {}", answer.blocks)?;
     writeln!(out, "  bytes     {}", answer.bytes)?;
-    writeln!(out, "  position  {}", record.position())?;
-    writeln!(out, "  sense     {}", sense_in_words(record))?;
-    writeln!(
-        out,
-        "            {}",
-        hex::show(&sense_bytes(record, image)?)
-    )?;
+    writeln!(out, "  position  {}", device.position())?;
+    if let Some(tape) = device.tape() {
+        writeln!(
+            out,
+            "  tape      {}: BSEG {}, SEGTRK {}, TRKS {}",
+            words::count(tape.product(), "block"),
+            tape.bseg,
+            tape.segtrk,
+            tape.trks
+        )?;
+    }
+    writeln!(out, "  sense     {}", sense_in_words(device))?;
+    let sense = device.sense_bytes(image)?;
+    writeln!(out, "            {}", hex::show(&sense))?;
     Ok(())
-}
-
-/// The sense as REQUEST SENSE would return it, asked of a copy of the record so that this one keeps its sense.
-fn sense_bytes(record: &Record, image: &mut [u8]) -> Result<[u8; length::SENSE], Failure> {
-    let mut copy = *record;
-    let mut sense = [0; length::SENSE];
-    packet::packet(&mut copy, image, &packets::request_sense(), &mut sense)?;
-    Ok(sense)
 }
 
 pub fn data(returned: &[u8], out: &mut dyn Write) -> Result<(), Failure> {
@@ -68,9 +75,13 @@ pub fn data(returned: &[u8], out: &mut dyn Write) -> Result<(), Failure> {
     Ok(())
 }
 
-fn sense_in_words(record: &Record) -> String {
-    let sense = record.sense();
+fn sense_in_words(device: &PacketDevice) -> String {
+    let sense = device.sense();
     let mut text = sense_words::sense(&sense);
+    // 02, A1: "Its residue on an unreadable block leaves out the block in error".
+    if device.kind() == Device::Floppy && sense.triple() == triple::UNREADABLE {
+        text.push_str(", the block in error left out");
+    }
     if sense.filemark {
         text.push_str(", filemark");
     }
