@@ -1,6 +1,6 @@
 /*
  * The drive card from C: two blocks and a filemark go onto a cartridge in memory and come back, a packet that was cut is
- * refused, and a pulse drive is recovered by 46 trains.
+ * refused, the floppy device rewrites a block in place, and a pulse drive is recovered by 46 trains.
  *
  *     cc -std=c99 -Wall -Wextra -Werror -Iinclude examples/c/card.c target/staticlib/libtapecard.a -o card
  */
@@ -20,9 +20,16 @@ enum {
 /* Lent where a packet transfers nothing. */
 static uint8_t no_data[1];
 
-/* A packet drive with the cartridge that is in it. */
+/* A packet drive (the stream device) with the cartridge that is in it. */
 struct packet_drive {
     uint8_t record[TAPECARD_PACKET_RECORD_LENGTH];
+    uint8_t image[IMAGE_LENGTH];
+    uint8_t answer[TAPECARD_PACKET_ANSWER_LENGTH];
+};
+
+/* The same as the floppy device. */
+struct floppy_drive {
+    uint8_t record[TAPECARD_FLOPPY_RECORD_LENGTH];
     uint8_t image[IMAGE_LENGTH];
     uint8_t answer[TAPECARD_PACKET_ANSWER_LENGTH];
 };
@@ -61,11 +68,9 @@ static void make_blank_cartridge(uint8_t image[IMAGE_LENGTH])
     put_number(image + TAPECARD_IMAGE_BLOCKS_AT, 4, BLOCKS_AT);
 }
 
-static void print_answer(const char *name, const struct packet_drive *drive)
+/* Both devices' records begin alike. */
+static void print_answer(const char *name, const uint8_t *record, const uint8_t *answer)
 {
-    const uint8_t *record = drive->record;
-    const uint8_t *answer = drive->answer;
-
     printf("%-18s", name);
     if (answer[TAPECARD_ANSWER_NUMBER_AT] != TAPECARD_ACCEPTED) {
         printf("refused, number %u\n", (unsigned)answer[TAPECARD_ANSWER_NUMBER_AT]);
@@ -94,7 +99,7 @@ static void send_packet(struct packet_drive *drive, const char *name, uint8_t op
     put_number(packet + 2, 3, count);
     tapecard_packet(drive->record, drive->image, sizeof drive->image, packet, sizeof packet, data, data_length,
                     drive->answer);
-    print_answer(name, drive);
+    print_answer(name, drive->record, drive->answer);
 }
 
 static void write_and_read_back(struct packet_drive *drive)
@@ -122,7 +127,7 @@ static void send_cut_packet(struct packet_drive *drive)
     int same;
 
     tapecard_packet(drive->record, drive->image, sizeof drive->image, cut, sizeof cut, data, sizeof data, drive->answer);
-    print_answer("11 bytes", drive);
+    print_answer("11 bytes", drive->record, drive->answer);
     same = memcmp(before.record, drive->record, sizeof before.record) == 0 &&
            memcmp(before.image, drive->image, sizeof before.image) == 0;
     printf("record and image as before: %s\n", yes_or_no(same));
@@ -138,6 +143,54 @@ static void use_packet_drive(void)
     send_packet(&drive, "TEST UNIT READY", TAPECARD_TEST_UNIT_READY, 0, no_data, 0);
     write_and_read_back(&drive);
     send_cut_packet(&drive);
+}
+
+static void send_to_floppy(struct floppy_drive *drive, const char *name, const uint8_t packet[TAPECARD_PACKET_LENGTH],
+                           uint8_t *data, size_t data_length)
+{
+    tapecard_floppy_packet(drive->record, drive->image, sizeof drive->image, packet, TAPECARD_PACKET_LENGTH, data,
+                           data_length, drive->answer);
+    print_answer(name, drive->record, drive->answer);
+}
+
+static void rewrite_block_1(struct floppy_drive *drive)
+{
+    static const uint8_t locate_0[TAPECARD_PACKET_LENGTH] = {TAPECARD_LOCATE};
+    static const uint8_t locate_1[TAPECARD_PACKET_LENGTH] = {TAPECARD_LOCATE, 0, 0, 0, 0, 0, 1};
+    static const uint8_t write_1[TAPECARD_PACKET_LENGTH] = {TAPECARD_WRITE, 1, 0, 0, 1};
+    static const uint8_t read_3[TAPECARD_PACKET_LENGTH] = {TAPECARD_READ, 1, 0, 0, 3};
+    uint8_t expected[3 * BLOCK_SIZE];
+    uint8_t written[BLOCK_SIZE] = "redrawn";
+    uint8_t read[3 * BLOCK_SIZE];
+
+    memcpy(expected, drive->image + BLOCKS_AT, sizeof expected);
+    memcpy(expected + BLOCK_SIZE, written, sizeof written);
+    send_to_floppy(drive, "LOCATE 1", locate_1, no_data, 0);
+    send_to_floppy(drive, "WRITE 1", write_1, written, sizeof written);
+    send_to_floppy(drive, "LOCATE 0", locate_0, no_data, 0);
+    send_to_floppy(drive, "READ 3", read_3, read, sizeof read);
+    printf("read: %s, %s, %s\n", (char *)read, (char *)read + BLOCK_SIZE, (char *)read + 2 * BLOCK_SIZE);
+    printf("block 1 new, its neighbours as before: %s\n", yes_or_no(memcmp(read, expected, sizeof read) == 0));
+}
+
+static void use_floppy_device(void)
+{
+    static const uint8_t test_unit_ready[TAPECARD_PACKET_LENGTH] = {TAPECARD_TEST_UNIT_READY};
+    struct floppy_drive drive;
+    int block;
+
+    printf("floppy device\n");
+    make_blank_cartridge(drive.image);
+    tapecard_floppy_fresh(drive.record, drive.image, sizeof drive.image, drive.answer);
+    print_answer("a blank cartridge", drive.record, drive.answer);
+    put_number(drive.image + TAPECARD_IMAGE_RECORDED_AT, 4, CAPACITY);
+    memset(drive.image + KINDS_AT, TAPECARD_KIND_DATA, CAPACITY);
+    for (block = 0; block < CAPACITY; block++)
+        sprintf((char *)drive.image + BLOCKS_AT + block * BLOCK_SIZE, "glyph %d", block);
+    tapecard_floppy_fresh(drive.record, drive.image, sizeof drive.image, drive.answer);
+    print_answer("a full cartridge", drive.record, drive.answer);
+    send_to_floppy(&drive, "TEST UNIT READY", test_unit_ready, no_data, 0);
+    rewrite_block_1(&drive);
 }
 
 static int train(uint8_t *record, uint16_t pulses)
@@ -209,6 +262,7 @@ static void recover_pulse_drive(void)
 int main(void)
 {
     use_packet_drive();
+    use_floppy_device();
     recover_pulse_drive();
     return 0;
 }
