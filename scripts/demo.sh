@@ -1,5 +1,6 @@
 #!/usr/bin/env bash
-# A walk through the drive card in under a minute: glyphs on a tape and back, a READ that stops, a cut packet, a lost drive.
+# A walk through the drive card in under a minute: glyphs on a tape and back, a READ that stops, a cut packet, a glyph redrawn
+# in place, a lost drive.
 # Run by `make demo`, after the archive and the command are built. TAPECARD may name another build of the command.
 set -euo pipefail
 cd "$(dirname "$0")/.."
@@ -40,6 +41,12 @@ glyphs() { # first code point, last code point, seed
     done
 }
 
+# One glyph in a block of its own.
+glyph_block() { # code point, seed
+    glyphs "$1" "$1" "$2"
+    head -c 433 /dev/zero # a picture has 79 bytes
+}
+
 heading "Two scripts' glyphs go onto a cartridge and come back"
 glyphs 0x0E01 0x0E2E 1 >thai.glyphs
 glyphs 0x1680 0x169C 2 >ogham.glyphs
@@ -64,6 +71,26 @@ if run packet scripts.img --record drive.record 0A 01 00 00 01 00 00 00 00 00 00
     exit 1
 fi
 sha256sum -c before.sums
+
+heading "On the floppy device a glyph is redrawn in its block, and its neighbours stay as they were"
+glyph_block 0x0E01 3 >block.0
+glyph_block 0x0E02 4 >block.1
+glyph_block 0x0E03 5 >block.2
+glyph_block 0x0E02 6 >redrawn
+cat block.0 block.1 block.2 >drawn
+run new floppy.img --full --blocks 8 --block-size 512
+run packet floppy.img --device floppy --data drawn 0A 01 00 00 03 00 00 00 00 00 00 00
+printf '\n$ tapecard packet floppy.img --device floppy --data redrawn\n'
+tapecard packet floppy.img --device floppy --data redrawn <<'LINES'
+2B 00 00 00 00 00 01 00 00 00 00 00  # LOCATE block 1
+0A 01 00 00 01 00 00 00 00 00 00 00  # WRITE one block there
+LINES
+run packet floppy.img --device floppy --out back 08 01 00 00 03 00 00 00 00 00 00 00
+printf '\nblock 1 as it was, and as it is now\n'
+paste <(head -n 9 block.1) <(tail -c +513 back | head -n 9)
+cat block.0 redrawn block.2 | cmp - back
+echo "blocks 0 and 2 are the same as before, byte for byte, and block 1 is the new one"
+run info floppy.img
 
 heading "A workstation loses its pulse drive in the middle of a report"
 printf '\n$ tapecard pulse --record pulse.record\n'
