@@ -6,9 +6,12 @@
 
 mod bug;
 mod bytes;
+mod commands;
 mod image;
 pub mod packet;
 pub mod pulse;
+mod record;
+mod reply;
 
 pub use bug::Bug;
 pub use image::Header;

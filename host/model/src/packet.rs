@@ -1,25 +1,14 @@
 //! The packet drive over a lent cartridge image.
 
 use crate::Bug;
-use crate::bytes::{long_at, put_long, put_word, triple_at, word_at};
+use crate::bytes::{long_at, put_long, triple_at};
+use crate::commands::*;
 use crate::image::{Header, Kind};
+use crate::record::{Attention, Sense, State};
+use crate::reply::*;
 
-const STATUS_GOOD: u8 = 0;
-const STATUS_CHECK_CONDITION: u8 = 2;
-
-const TEST_UNIT_READY: u8 = 0x00;
-const REWIND: u8 = 0x01;
-const REQUEST_SENSE: u8 = 0x03;
-const READ: u8 = 0x08;
-const WRITE: u8 = 0x0A;
-const WRITE_FILEMARK: u8 = 0x10;
-const SPACE: u8 = 0x11;
-const INQUIRY: u8 = 0x12;
-const MODE_SELECT: u8 = 0x15;
-const MODE_SENSE: u8 = 0x1A;
-const LOAD_UNLOAD: u8 = 0x1B;
-const LOCATE: u8 = 0x2B;
-const READ_POSITION: u8 = 0x34;
+pub use crate::commands::SPEEDS;
+pub use crate::reply::Ending;
 
 /// Every opcode that the drive knows.
 pub const OPCODES: [u8; 13] = [
@@ -38,53 +27,18 @@ pub const OPCODES: [u8; 13] = [
     READ_POSITION,
 ];
 
-/// The five speeds.
-pub const SPEEDS: [u16; 5] = [0, 62, 125, 250, 500];
-
 const SPACE_BLOCKS: u8 = 0;
 const SPACE_FILEMARKS: u8 = 1;
 const SPACE_TO_END: u8 = 3;
 
-const SENSE_LENGTH: usize = 20;
-const INQUIRY_LENGTH: usize = 36;
+/// "01h 80h 02h 02h 1Fh": the first of INQUIRY's bytes.
+const DEVICE_TYPE: u8 = 0x01;
 const POSITION_LENGTH: usize = 20;
-const MODE_HEADER_LENGTH: usize = 12;
-const MODE_PAGE_LENGTH: usize = 20;
-const MODE_WHOLE_LENGTH: usize = MODE_HEADER_LENGTH + MODE_PAGE_LENGTH;
-
-/// How a packet ended.
-#[derive(Clone, Copy, Debug, PartialEq, Eq, PartialOrd, Ord, Hash)]
-pub enum Ending {
-    Refused(u8),
-    MediumChanged,
-    WasReset,
-    UnknownOpcode,
-    BadField,
-    BadListLength,
-    NotLoaded,
-    Protected,
-    BadList,
-    Good,
-    AtFilemark,
-    AtUnreadable,
-    AtEndOfData,
-    AtBeginning,
-    CartridgeFull,
-    EarlyWarning,
-    LocatedBeyond,
-}
+const MODE_WHOLE_LENGTH: usize = MODE_HEADER_LENGTH + CAPABILITIES_LENGTH;
 
 /// A fresh record.
 pub fn fresh(record: &mut [u8; 16]) {
-    // "Fresh: P 0, loaded, attention reset, speed 0, sense zero."
-    let state = State {
-        position: 0,
-        loaded: true,
-        attention: Attention::Reset,
-        speed: 0,
-        sense: Sense::ZERO,
-    };
-    *record = state.encoded();
+    *record = State::fresh().encoded();
 }
 
 /// Another cartridge is put in.
@@ -93,14 +47,13 @@ pub fn change(record: &mut [u8; 16]) {
 }
 
 pub fn change_with(bug: Bug, record: &mut [u8; 16]) {
-    // "Changing the cartridge (never refused) sets only P 0, loaded, attention medium changed, sense zero."
     let mut state = State::decoded(record);
-    state.position = 0;
-    state.loaded = true;
-    if bug != Bug::ChangeKeepsReset || state.attention != Attention::Reset {
-        state.attention = Attention::MediumChanged;
+    let keeps_reset = bug == Bug::ChangeKeepsReset && state.attention == Attention::Reset;
+    // "Changing the cartridge (never refused)".
+    state.change_cartridge();
+    if keeps_reset {
+        state.attention = Attention::Reset;
     }
-    state.sense = Sense::ZERO;
     *record = state.encoded();
 }
 
@@ -141,190 +94,6 @@ pub fn packet_with(
     (reply.encoded(), reply.ending)
 }
 
-#[derive(Clone, Copy, PartialEq, Eq)]
-enum Attention {
-    None,
-    MediumChanged,
-    Reset,
-}
-
-#[derive(Clone, Copy, PartialEq, Eq)]
-struct Sense {
-    key: u8,
-    asc: u8,
-    ascq: u8,
-    filemark: bool,
-    eom: bool,
-    valid: bool,
-    information: u32,
-}
-
-impl Sense {
-    const ZERO: Sense = Sense::of(0, 0, 0);
-
-    const fn of(key: u8, asc: u8, ascq: u8) -> Sense {
-        Sense {
-            key,
-            asc,
-            ascq,
-            filemark: false,
-            eom: false,
-            valid: false,
-            information: 0,
-        }
-    }
-
-    fn with_filemark(self) -> Sense {
-        Sense {
-            filemark: true,
-            ..self
-        }
-    }
-
-    fn with_eom(self) -> Sense {
-        Sense { eom: true, ..self }
-    }
-
-    fn with_residue(self, information: u32) -> Sense {
-        Sense {
-            valid: true,
-            information,
-            ..self
-        }
-    }
-}
-
-struct State {
-    position: u32,
-    loaded: bool,
-    attention: Attention,
-    speed: u16,
-    sense: Sense,
-}
-
-impl State {
-    fn decoded(record: &[u8; 16]) -> State {
-        State {
-            position: long_at(record, 0),
-            loaded: record[4] & 1 != 0,
-            attention: match record[5] {
-                1 => Attention::MediumChanged,
-                2 => Attention::Reset,
-                _ => Attention::None,
-            },
-            speed: word_at(record, 6),
-            sense: Sense {
-                key: record[8],
-                asc: record[9],
-                ascq: record[10],
-                valid: record[11] & 1 != 0,
-                eom: record[11] & 2 != 0,
-                filemark: record[11] & 4 != 0,
-                information: long_at(record, 12),
-            },
-        }
-    }
-
-    fn encoded(&self) -> [u8; 16] {
-        let mut record = [0; 16];
-        put_long(&mut record, 0, self.position);
-        record[4] = u8::from(self.loaded);
-        record[5] = match self.attention {
-            Attention::None => 0,
-            Attention::MediumChanged => 1,
-            Attention::Reset => 2,
-        };
-        put_word(&mut record, 6, self.speed);
-        record[8] = self.sense.key;
-        record[9] = self.sense.asc;
-        record[10] = self.sense.ascq;
-        record[11] = u8::from(self.sense.valid)
-            + 2 * u8::from(self.sense.eom)
-            + 4 * u8::from(self.sense.filemark);
-        put_long(&mut record, 12, self.sense.information);
-        record
-    }
-}
-
-/// An answer with the sense that the record gets.
-struct Reply {
-    ending: Ending,
-    sense: Sense,
-    blocks: u32,
-    bytes: u32,
-}
-
-impl Reply {
-    fn refused(number: u8) -> Reply {
-        Reply::ended(Ending::Refused(number), Sense::ZERO)
-    }
-
-    fn good() -> Reply {
-        Reply::ended(Ending::Good, Sense::ZERO)
-    }
-
-    fn filled(bytes: usize) -> Reply {
-        Reply::good().with_bytes(bytes as u32)
-    }
-
-    fn ended(ending: Ending, sense: Sense) -> Reply {
-        Reply {
-            ending,
-            sense,
-            blocks: 0,
-            bytes: 0,
-        }
-    }
-
-    fn with_blocks(self, blocks: u32) -> Reply {
-        Reply { blocks, ..self }
-    }
-
-    fn with_bytes(self, bytes: u32) -> Reply {
-        Reply { bytes, ..self }
-    }
-
-    fn number(&self) -> u8 {
-        match self.ending {
-            Ending::Refused(number) => number,
-            _ => 0,
-        }
-    }
-
-    // "CHECK CONDITION is status 2."
-    fn status(&self) -> u8 {
-        match self.ending {
-            Ending::Refused(_) | Ending::Good => STATUS_GOOD,
-            _ => STATUS_CHECK_CONDITION,
-        }
-    }
-
-    fn encoded(&self) -> [u8; 16] {
-        let mut answer = [0; 16];
-        answer[0] = self.number();
-        answer[1] = self.status();
-        put_long(&mut answer, 4, self.blocks);
-        put_long(&mut answer, 8, self.bytes);
-        answer
-    }
-}
-
-fn bad_field() -> Reply {
-    Reply::ended(Ending::BadField, Sense::of(5, 0x24, 0))
-}
-
-fn at_filemark(residue: u32) -> Reply {
-    let sense = Sense::of(0, 0, 1).with_filemark().with_residue(residue);
-    Reply::ended(Ending::AtFilemark, sense)
-}
-
-fn at_end_of_data(residue: u32) -> Reply {
-    Reply::ended(
-        Ending::AtEndOfData,
-        Sense::of(8, 0, 5).with_residue(residue),
-    )
-}
-
 struct Drive<'a> {
     bug: Bug,
     state: State,
@@ -336,7 +105,7 @@ struct Drive<'a> {
 impl Drive<'_> {
     // "Packet order: 1, 2, 3, attention, opcode, fields, not ready, protection, 4, list contents, the work."
     fn answered(&mut self) -> Reply {
-        if self.packet.len() != 12 {
+        if self.packet.len() != PACKET_LENGTH {
             return Reply::refused(1);
         }
         let Some(mut header) = Header::of_with(self.bug, self.image) else {
@@ -346,17 +115,17 @@ impl Drive<'_> {
             return Reply::refused(3);
         }
         let unknown_first = self.bug == Bug::AttentionAfterOpcode && !self.opcode_is_known();
-        if self.attention_is_told() && !unknown_first {
-            return self.tell_attention();
+        if attention_is_told(&self.state, self.opcode()) && !unknown_first {
+            return tell_attention(&mut self.state);
         }
         if !self.opcode_is_known() {
-            return Reply::ended(Ending::UnknownOpcode, Sense::of(5, 0x20, 0));
+            return unknown_opcode();
         }
         if let Some(reply) = self.wrong_field() {
             return reply;
         }
-        if !self.state.loaded && self.needs_cartridge() {
-            return Reply::ended(Ending::NotLoaded, Sense::of(2, 0x3A, 0));
+        if !self.state.loaded && needs_cartridge(self.opcode()) {
+            return not_loaded();
         }
         self.protection_and_after(&mut header)
     }
@@ -366,9 +135,7 @@ impl Drive<'_> {
         if too_short && self.bug == Bug::ProtectionAfterBuffer {
             return Reply::refused(4);
         }
-        // "Write protected 7/27/00, for 0Ah and 10h."
-        let stores = self.opcode() == WRITE || self.opcode() == WRITE_FILEMARK;
-        let protected = stores && header.protected;
+        let protected = minds_protection(self.opcode()) && header.protected;
         if protected && self.bug != Bug::ProtectionAfterTransfer {
             return write_protected();
         }
@@ -404,23 +171,6 @@ impl Drive<'_> {
         position_kept && SPEEDS.contains(&self.state.speed) && self.state.sense.key <= 15
     }
 
-    // "A pending attention ends any packet but 03h and 12h".
-    fn attention_is_told(&self) -> bool {
-        let exempt = self.opcode() == REQUEST_SENSE || self.opcode() == INQUIRY;
-        self.state.attention != Attention::None && !exempt
-    }
-
-    // "with 6/28/00 (medium) or 6/29/00 (reset) and is then cleared."
-    fn tell_attention(&mut self) -> Reply {
-        let changed = self.state.attention == Attention::MediumChanged;
-        self.state.attention = Attention::None;
-        if changed {
-            Reply::ended(Ending::MediumChanged, Sense::of(6, 0x28, 0))
-        } else {
-            Reply::ended(Ending::WasReset, Sense::of(6, 0x29, 0))
-        }
-    }
-
     fn opcode_is_known(&self) -> bool {
         OPCODES.contains(&self.opcode())
     }
@@ -434,10 +184,10 @@ impl Drive<'_> {
             // "code in byte 1 bits 0-2 .. Other codes 24/00."
             SPACE => ![SPACE_BLOCKS, SPACE_FILEMARKS, SPACE_TO_END].contains(&(byte_1 & 7)),
             // "page (byte 2, six bits) 00h or 2Ah, else 24/00."
-            MODE_SENSE => ![0x00, 0x2A].contains(&self.page_code()),
+            MODE_SENSE => ![0x00, CAPABILITIES].contains(&page_code(self.packet)),
             // "list length (byte 4, a field) 0, 12 or 32, else 5/1A/00."
             MODE_SELECT if ![0, 12, 32].contains(&byte_4) => {
-                return Some(Reply::ended(Ending::BadListLength, Sense::of(5, 0x1A, 0)));
+                return Some(bad_list_length());
             }
             // "byte 4 load 1, retension 2, EOT 4. Load with EOT 24/00."
             LOAD_UNLOAD => byte_4 & 1 != 0 && byte_4 & 4 != 0,
@@ -448,15 +198,10 @@ impl Drive<'_> {
         wrong.then(bad_field)
     }
 
-    // "Not loaded 2/3A/00, for all but 03h, 12h, 15h, 1Ah, 1Bh."
-    fn needs_cartridge(&self) -> bool {
-        ![REQUEST_SENSE, INQUIRY, MODE_SELECT, MODE_SENSE, LOAD_UNLOAD].contains(&self.opcode())
-    }
-
     // "a lent data buffer is shorter than this transfer needs".
     fn bytes_needed(&self, header: &Header) -> u64 {
         match self.opcode() {
-            REQUEST_SENSE => self.shortened(SENSE_LENGTH) as u64,
+            REQUEST_SENSE => shortened(self.packet, SENSE_LENGTH) as u64,
             READ | WRITE => {
                 let need = u64::from(self.count()) * u64::from(header.block_size);
                 if self.bug == Bug::NeedWraps {
@@ -465,53 +210,40 @@ impl Drive<'_> {
                     need
                 }
             }
-            INQUIRY => self.shortened(INQUIRY_LENGTH) as u64,
+            INQUIRY => shortened(self.packet, INQUIRY_LENGTH) as u64,
             MODE_SELECT => u64::from(self.packet[4]),
-            MODE_SENSE => self.shortened(self.mode_length()) as u64,
+            MODE_SENSE => shortened(self.packet, self.mode_length()) as u64,
             READ_POSITION => POSITION_LENGTH as u64,
             _ => 0,
         }
     }
 
-    // "the first min(byte 4, ..) returned".
-    fn shortened(&self, whole: usize) -> usize {
-        whole.min(usize::from(self.packet[4]))
-    }
-
-    fn page_code(&self) -> u8 {
-        self.packet[2] & 0x3F
-    }
-
     // "First min(byte 4, 12 or 32)."
     fn mode_length(&self) -> usize {
-        if self.page_code() == 0 {
+        if page_code(self.packet) == 0 {
             MODE_HEADER_LENGTH
         } else {
             MODE_WHOLE_LENGTH
         }
     }
 
-    // "Length 32: page bytes 2Ah 12h and speed 0, 62, 125, 250 or 500, else 5/26/00; other bytes ignored."
+    // "Length 32: page bytes 2Ah 12h and speed 0, 62, 125, 250 or 500, else 5/26/00".
     fn list_is_right(&self) -> bool {
         if self.packet[4] != 32 {
             return true;
         }
-        let page = &self.data[MODE_HEADER_LENGTH..MODE_WHOLE_LENGTH];
-        let code = if self.bug == Bug::PageCodeMasked {
-            page[0] & 0x3F
-        } else {
-            page[0]
-        };
-        code == 0x2A && page[1] == 0x12 && SPEEDS.contains(&word_at(page, 14))
+        let mut page = self.data[MODE_HEADER_LENGTH..MODE_WHOLE_LENGTH].to_vec();
+        if self.bug == Bug::PageCodeMasked {
+            page[0] &= 0x3F;
+        }
+        capabilities_are_right(&page)
     }
 
-    // "bytes are those filled or taken in the data buffer, 0 for a wrong list."
     fn wrong_list(&self) -> Reply {
-        let reply = Reply::ended(Ending::BadList, Sense::of(5, 0x26, 0));
         if self.bug == Bug::WrongListTakesBytes {
-            return reply.with_bytes(u32::from(self.packet[4]));
+            return bad_list().with_bytes(u32::from(self.packet[4]));
         }
-        reply
+        bad_list()
     }
 
     fn work(&mut self, header: &mut Header) -> Reply {
@@ -527,7 +259,7 @@ impl Drive<'_> {
             READ => self.read(header),
             WRITE | WRITE_FILEMARK => self.write(header),
             SPACE => self.space(header),
-            INQUIRY => self.fill(&inquiry_data()),
+            INQUIRY => self.fill(&inquiry_data(DEVICE_TYPE)),
             MODE_SELECT => self.mode_select(),
             MODE_SENSE => self.mode_sense(header),
             LOAD_UNLOAD => self.load_unload(),
@@ -537,11 +269,8 @@ impl Drive<'_> {
         }
     }
 
-    /// The first min(byte 4, length) bytes go to the host.
     fn fill(&mut self, whole: &[u8]) -> Reply {
-        let length = self.shortened(whole.len());
-        self.data[..length].copy_from_slice(&whole[..length]);
-        Reply::filled(length)
+        fill(self.data, self.packet, whole)
     }
 
     // "20 bytes, the first min(byte 4, 20) returned, then sense cleared."
@@ -584,8 +313,7 @@ impl Drive<'_> {
                     break;
                 }
                 Kind::Unreadable => {
-                    let sense = Sense::of(3, 0x11, 0).with_residue(residue);
-                    reply = Reply::ended(Ending::AtUnreadable, sense);
+                    reply = at_unreadable(residue);
                     break;
                 }
             }
@@ -611,12 +339,9 @@ impl Drive<'_> {
             }
         }
         let reply = if full {
-            let sense = Sense::of(0xD, 0, 2).with_eom();
-            let residue = self.count() - stored;
-            Reply::ended(Ending::CartridgeFull, sense.with_residue(residue))
+            cartridge_full(self.count() - stored)
         } else if stored >= 1 && self.past_early_warning(header) {
-            let sense = Sense::of(0, 0, 2).with_eom().with_residue(0);
-            Reply::ended(Ending::EarlyWarning, sense)
+            early_warning()
         } else {
             Reply::good()
         };
@@ -729,28 +454,17 @@ impl Drive<'_> {
     fn mode_select(&mut self) -> Reply {
         let length = usize::from(self.packet[4]);
         if length == MODE_WHOLE_LENGTH {
-            self.state.speed = word_at(self.data, MODE_HEADER_LENGTH + 14);
+            self.state.speed = speed_in(&self.data[MODE_HEADER_LENGTH..]);
         }
-        Reply::filled(length)
+        Reply::good().with_bytes(length as u32)
     }
 
-    // "Header 12 bytes: 0 the length after itself, 1 medium type, 2 is 80h if protected. Page 20 bytes: 2Ah 12h; byte 6 08h; byte 7
-    // 04h if B is 1024; 8-9 500; 12-13 64; 14-15 speed; 16-17 128; others 0."
     fn mode_sense(&mut self, header: &Header) -> Reply {
-        let mut whole = [0; MODE_WHOLE_LENGTH];
         let length = self.mode_length();
-        whole[0] = length as u8 - 1;
-        whole[1] = header.medium_type;
-        whole[2] = if header.protected { 0x80 } else { 0 };
-        let page = &mut whole[MODE_HEADER_LENGTH..];
-        page[0] = 0x2A;
-        page[1] = 0x12;
-        page[6] = 0x08;
-        page[7] = if header.block_size == 1024 { 0x04 } else { 0 };
-        put_word(page, 8, 500);
-        put_word(page, 12, 64);
-        put_word(page, 14, self.state.speed);
-        put_word(page, 16, 128);
+        let mut whole = [0; MODE_WHOLE_LENGTH];
+        whole[..MODE_HEADER_LENGTH].copy_from_slice(&mode_header(header, length));
+        let page = capabilities_page(header, self.state.speed);
+        whole[MODE_HEADER_LENGTH..].copy_from_slice(&page);
         self.fill(&whole[..length])
     }
 
@@ -787,41 +501,8 @@ impl Drive<'_> {
         put_long(&mut whole, 4, position);
         put_long(&mut whole, 8, position);
         self.data[..POSITION_LENGTH].copy_from_slice(&whole);
-        Reply::filled(POSITION_LENGTH)
+        Reply::good().with_bytes(POSITION_LENGTH as u32)
     }
-}
-
-fn write_protected() -> Reply {
-    Reply::ended(Ending::Protected, Sense::of(7, 0x27, 0))
-}
-
-// "Byte 0 is 70h, F0h when valid; 2: filemark 80h, EOM 40h, key in the low four bits; 3-6 information; 7 is 0Ch, also when
-// shortened; 12 ASC; 13 ASCQ; others 0."
-fn sense_data(sense: &Sense) -> [u8; SENSE_LENGTH] {
-    let mut bytes = [0; SENSE_LENGTH];
-    bytes[0] = if sense.valid { 0xF0 } else { 0x70 };
-    bytes[2] = sense.key;
-    if sense.filemark {
-        bytes[2] += 0x80;
-    }
-    if sense.eom {
-        bytes[2] += 0x40;
-    }
-    put_long(&mut bytes, 3, sense.information);
-    bytes[7] = 0x0C;
-    bytes[12] = sense.asc;
-    bytes[13] = sense.ascq;
-    bytes
-}
-
-// "36 bytes, 01h 80h 02h 02h 1Fh, three 00, "TYPEHAUS", "TAPE CARD" padded to 16 with spaces, "0100"."
-fn inquiry_data() -> [u8; INQUIRY_LENGTH] {
-    let mut bytes = [0; INQUIRY_LENGTH];
-    bytes[..5].copy_from_slice(&[0x01, 0x80, 0x02, 0x02, 0x1F]);
-    bytes[8..16].copy_from_slice(b"TYPEHAUS");
-    bytes[16..32].copy_from_slice(b"TAPE CARD       ");
-    bytes[32..].copy_from_slice(b"0100");
-    bytes
 }
 
 #[cfg(test)]

@@ -1,6 +1,7 @@
 //! The plates of the packet drive, and the readings that the interface page settles.
 
 use super::*;
+use crate::bytes::{put_word, word_at};
 
 const BLOCK: usize = 512;
 
