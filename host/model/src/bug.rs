@@ -48,6 +48,52 @@ pub enum Bug {
     /// A refused packet clears the sense.
     RefusalClearsSense,
 
+    // Floppy tape device.
+    /// The residue at an unreadable block counts the block in error.
+    BlockInErrorInResidue,
+    /// Kind 2 stops a READ as a filemark.
+    KindTwoIsFilemark,
+    /// A WRITE sets U.
+    FloppyWriteSetsRecorded,
+    /// A WRITE tells early warning.
+    FloppyWarnsEarly,
+    /// Transfers stop at the capacity.
+    TransfersEndAtCapacity,
+    /// The count is taken from three bytes.
+    CountOfThreeBytes,
+    /// LOCATE takes the product itself as a block's number.
+    LocateTakesProduct,
+    /// A block's number is judged only while a cartridge is loaded.
+    LocateWaitsForReady,
+    /// The product is multiplied in 32 bits.
+    ProductWraps,
+    /// A list that puts the product below P keeps P.
+    ListBelowKeepsPosition,
+    /// A list that puts the product at P sets P 0.
+    ListAtPositionRewinds,
+    /// A list with a product above the capacity is stored, though it is told to be wrong.
+    LargeListStored,
+    /// An unload resets the tape parameters.
+    UnloadResetsParameters,
+    /// A load keeps the tape parameters.
+    LoadKeepsParameters,
+    /// A load with the bit for EOT is a bad field.
+    LoadMindsEot,
+    /// Changing the cartridge keeps the tape parameters.
+    ChangeKeepsParameters,
+    /// Page 2Ah shows 64 blocks as its transfer limit.
+    TransferLimitFixed,
+    /// Reserved bits beside the flags are kept.
+    ReservedFlagsKept,
+    /// 10h is GOOD on a protected cartridge.
+    FlushIgnoresProtection,
+    /// An image with U below C is taken.
+    UnfilledImageTaken,
+    /// A record with a product above the capacity is taken.
+    ProductAboveCapacityTaken,
+    /// A position at the product is refused.
+    PositionAtProductRefused,
+
     // Pulse drive.
     /// The train after a rejected 13 is taken as a track.
     RejectedSeekTakesTrack,
@@ -114,6 +160,32 @@ impl Bug {
         Bug::WrongListTakesBytes,
         Bug::ChangeKeepsReset,
         Bug::RefusalClearsSense,
+    ];
+
+    /// Mistakes in the floppy tape device.
+    pub const FLOPPY: [Bug; 22] = [
+        Bug::BlockInErrorInResidue,
+        Bug::KindTwoIsFilemark,
+        Bug::FloppyWriteSetsRecorded,
+        Bug::FloppyWarnsEarly,
+        Bug::TransfersEndAtCapacity,
+        Bug::CountOfThreeBytes,
+        Bug::LocateTakesProduct,
+        Bug::LocateWaitsForReady,
+        Bug::ProductWraps,
+        Bug::ListBelowKeepsPosition,
+        Bug::ListAtPositionRewinds,
+        Bug::LargeListStored,
+        Bug::UnloadResetsParameters,
+        Bug::LoadKeepsParameters,
+        Bug::LoadMindsEot,
+        Bug::ChangeKeepsParameters,
+        Bug::TransferLimitFixed,
+        Bug::ReservedFlagsKept,
+        Bug::FlushIgnoresProtection,
+        Bug::UnfilledImageTaken,
+        Bug::ProductAboveCapacityTaken,
+        Bug::PositionAtProductRefused,
     ];
 
     /// Mistakes in the pulse drive.
