@@ -8,7 +8,9 @@
 //! printed with its whole case, and the same seed finds it again. `tests/mutants.rs` plants known mistakes in the model and asks that
 //! each is found. `tests/c_example.rs` compiles, runs and checks the C example and the header.
 
+pub mod bytes;
 mod guarded;
+mod images;
 mod origin;
 mod packet_bench;
 pub mod packet_sessions;
@@ -18,6 +20,7 @@ mod random;
 mod settings;
 
 pub use guarded::Guarded;
+pub use images::Shape;
 pub use origin::{Difference, Origin, hex};
 pub use packet_bench::{PacketBench, PacketSeen};
 pub use pulse_bench::{PulseBench, PulseCall, PulseSeen};

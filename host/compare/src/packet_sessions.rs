@@ -3,6 +3,8 @@
 use tapecard::bytes::opcode::*;
 use tapecard::bytes::{length, page};
 
+use crate::bytes::{long_at, put_long, put_word, word_at};
+use crate::images::{Shape, damage_image};
 use crate::{Difference, PacketBench, Random};
 
 /// Opcodes with the weight that each has among good packets.
@@ -158,65 +160,6 @@ fn with_damaged_image(bench: &mut PacketBench, random: &mut Random) -> Result<()
     bench.set_image(&good);
     bench.set_record(&record);
     Ok(())
-}
-
-fn damage_image(image: &mut Vec<u8>, random: &mut Random) {
-    let capacity = long_at(image, 4);
-    let size = u32::from(word_at(image, 2));
-    let kinds_at = long_at(image, 12);
-    let blocks_at = long_at(image, 16);
-    let length = image.len() as u32;
-    match random.below(13) {
-        0 => put_word(image, 0, random.pick(&[0, 31, 33, 0x2000, 0xFFFF])),
-        1 => put_word(image, 2, random.pick(&[0, 511, 513, 1023, 1025, 512, 1024])),
-        2 => {
-            let choices = [0, 65_535, 65_536, capacity + 1, u32::MAX, 0x1_0001];
-            put_long(image, 4, random.pick(&choices));
-        }
-        3 => put_long(
-            image,
-            8,
-            random.pick(&[capacity, capacity + 1, 65_536, u32::MAX]),
-        ),
-        4 => {
-            let wraps = 0u32.wrapping_sub(capacity);
-            let border = blocks_at - capacity;
-            let over = wraps.wrapping_add(32);
-            let choices = [0, 31, 32, border, border + 1, wraps, over, u32::MAX];
-            put_long(image, 12, random.pick(&choices));
-        }
-        5 => {
-            let blocks = capacity * size;
-            let wraps = 0u32.wrapping_sub(blocks);
-            let tight = kinds_at + capacity;
-            let choices = [
-                tight - 1,
-                tight,
-                length - blocks,
-                length - blocks + 1,
-                wraps,
-                wraps.wrapping_add(64),
-                u32::MAX,
-            ];
-            put_long(image, 16, random.pick(&choices));
-        }
-        6 => image[20] = random.pick(&[0, 1, 2, 0x80, 0xFF]),
-        7 => image[random.between(24, 31) as usize] = random.pick(&[1, 0x80]),
-        8 => {
-            let border = (capacity + 1).min(0xFFFF) as u16;
-            put_word(image, 22, random.pick(&[border - 1, border, 0xFFFF]));
-        }
-        9 => {
-            let needed = (blocks_at + capacity * size) as usize;
-            image.resize(needed - random.below(2) as usize, 0);
-        }
-        10 => image.truncate(random.below(40) as usize),
-        11 => {
-            let at = random.below(32) as usize;
-            image[at] = random.byte();
-        }
-        _ => random.fill(&mut image[..32]),
-    }
 }
 
 /// Another protection, early warning or kind, all of them allowed.
@@ -422,83 +365,6 @@ fn put_list(random: &mut Random, list: &mut [u8]) {
     }
 }
 
-/// The measures of a good image.
-pub struct Shape {
-    pub size: u16,
-    pub capacity: u32,
-    pub recorded: u32,
-    pub warning: u16,
-    pub kinds_gap: usize,
-    pub blocks_gap: usize,
-    pub tail: usize,
-    pub protected: bool,
-}
-
-impl Shape {
-    /// Small images mostly.
-    pub fn any(random: &mut Random) -> Shape {
-        let capacity = match random.below(100) {
-            0..=69 => random.between(1, 4),
-            70..=95 => random.between(5, 12),
-            96..=98 => random.between(13, 48),
-            _ => random.between(49, 100),
-        };
-        let gap = |random: &mut Random| {
-            if random.percent(70) {
-                0
-            } else {
-                random.between(1, 50) as usize
-            }
-        };
-        Shape {
-            size: if random.percent(75) { 512 } else { 1024 },
-            capacity: capacity as u32,
-            recorded: match random.below(6) {
-                0 => 0,
-                1 | 2 => capacity as u32,
-                _ => random.below(capacity + 1) as u32,
-            },
-            warning: match random.below(4) {
-                0 => 0,
-                1 => random.pick(&[1, capacity]) as u16,
-                _ => random.below(capacity + 1) as u16,
-            },
-            kinds_gap: gap(random),
-            blocks_gap: gap(random),
-            tail: gap(random),
-            protected: random.percent(8),
-        }
-    }
-
-    /// An image of these measures with random kinds and blocks.
-    pub fn image(&self, random: &mut Random) -> Vec<u8> {
-        let capacity = self.capacity as usize;
-        let kinds_at = 32 + self.kinds_gap;
-        let blocks_at = kinds_at + capacity + self.blocks_gap;
-        let length = blocks_at + capacity * usize::from(self.size) + self.tail;
-        let mut image = vec![0; length];
-        random.fill(&mut image[32..]);
-        put_word(&mut image, 0, 32);
-        put_word(&mut image, 2, self.size);
-        put_long(&mut image, 4, self.capacity);
-        put_long(&mut image, 8, self.recorded);
-        put_long(&mut image, 12, kinds_at as u32);
-        put_long(&mut image, 16, blocks_at as u32);
-        image[20] = u8::from(self.protected);
-        image[21] = random.byte();
-        put_word(&mut image, 22, self.warning);
-        let odd_ones = random.pick(&[2, 10, 40]);
-        for kind in &mut image[kinds_at..kinds_at + self.recorded as usize] {
-            *kind = if random.percent(odd_ones) {
-                random.pick(&[2, 2, 2, 2, 0, 3, 4, 5, 0xFF])
-            } else {
-                1
-            };
-        }
-        image
-    }
-}
-
 /// A record that keeps the rules for this image.
 pub fn valid_record(random: &mut Random, image: &[u8]) -> [u8; 16] {
     let recorded = long_at(image, 8);
@@ -528,20 +394,4 @@ pub fn count_in(packet: &[u8; 12]) -> u32 {
 
 pub fn put_count(packet: &mut [u8; 12], count: u32) {
     packet[2..5].copy_from_slice(&count.to_be_bytes()[1..]);
-}
-
-pub fn word_at(bytes: &[u8], at: usize) -> u16 {
-    u16::from_be_bytes([bytes[at], bytes[at + 1]])
-}
-
-pub fn long_at(bytes: &[u8], at: usize) -> u32 {
-    u32::from_be_bytes([bytes[at], bytes[at + 1], bytes[at + 2], bytes[at + 3]])
-}
-
-pub fn put_word(bytes: &mut [u8], at: usize, value: u16) {
-    bytes[at..at + 2].copy_from_slice(&value.to_be_bytes());
-}
-
-pub fn put_long(bytes: &mut [u8], at: usize, value: u32) {
-    bytes[at..at + 4].copy_from_slice(&value.to_be_bytes());
 }

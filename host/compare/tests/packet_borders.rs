@@ -1,7 +1,8 @@
 //! The packet drive at its borders: every header rule, buffer length, opcode and field, a small world in full, the largest images.
 
-use compare::packet_sessions::{Shape, put_count, put_long, put_word};
-use compare::{Difference, PacketBench, Random, say};
+use compare::bytes::{put_long, put_word};
+use compare::packet_sessions::put_count;
+use compare::{Difference, PacketBench, Random, Shape, say};
 use model::Bug;
 use model::packet::Ending;
 use tapecard::bytes::{opcode, page};

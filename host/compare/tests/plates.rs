@@ -2,8 +2,9 @@
 
 use std::collections::VecDeque;
 
-use compare::packet_sessions::{Shape, long_at, put_count, put_long, word_at};
-use compare::{PacketBench, PulseBench, PulseCall, Random, pulse_sessions};
+use compare::bytes::{long_at, put_long, word_at};
+use compare::packet_sessions::put_count;
+use compare::{PacketBench, PulseBench, PulseCall, Random, Shape, pulse_sessions};
 use model::Bug;
 use tapecard::bytes::opcode;
 

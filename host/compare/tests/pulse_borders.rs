@@ -1,6 +1,6 @@
 //! The pulse drive at its borders: a small world in full, every byte of the record, every cartridge description.
 
-use compare::packet_sessions::put_word;
+use compare::bytes::put_word;
 use compare::{Difference, PulseBench, PulseCall, Random, pulse_sessions, say};
 use model::Bug;
 use model::pulse::Branch;
