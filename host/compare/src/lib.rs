@@ -10,6 +10,7 @@
 
 pub mod bytes;
 mod guarded;
+mod image_bench;
 mod images;
 mod origin;
 mod packet_bench;
@@ -20,9 +21,10 @@ mod random;
 mod settings;
 
 pub use guarded::Guarded;
+pub use image_bench::{ImageBench, PacketSeen};
 pub use images::Shape;
 pub use origin::{Difference, Origin, hex};
-pub use packet_bench::{PacketBench, PacketSeen};
+pub use packet_bench::PacketBench;
 pub use pulse_bench::{PulseBench, PulseCall, PulseSeen};
 pub use random::Random;
 pub use settings::{calls_wanted, say, seed_wanted};

@@ -92,7 +92,13 @@ fn send_good(bench: &mut PacketBench, random: &mut Random) -> Result<(), Box<Dif
 
 /// A packet that is too short or too long.
 fn send_cut(bench: &mut PacketBench, random: &mut Random) -> Result<(), Box<Difference>> {
-    let mut packet = good_packet(random, &Place::of(bench)).to_vec();
+    let packet = good_packet(random, &Place::of(bench));
+    bench.send(&cut(random, &packet), &[0xD7; 40])?;
+    Ok(())
+}
+
+pub(crate) fn cut(random: &mut Random, packet: &[u8; 12]) -> Vec<u8> {
+    let mut packet = packet.to_vec();
     let length = match random.below(4) {
         0 => 11,
         1 => 13,
@@ -100,8 +106,7 @@ fn send_cut(bench: &mut PacketBench, random: &mut Random) -> Result<(), Box<Diff
         _ => random.between(13, 300) as usize,
     };
     packet.resize(length, random.byte());
-    bench.send(&packet, &[0xD7; 40])?;
-    Ok(())
+    packet
 }
 
 fn send_random(bench: &mut PacketBench, random: &mut Random) -> Result<(), Box<Difference>> {
@@ -271,7 +276,7 @@ fn put_fields(packet: &mut [u8; 12], random: &mut Random, place: &Place) {
 }
 
 /// An allocation length: around the whole, 0, or any.
-fn allocation(random: &mut Random, whole: u8) -> u8 {
+pub(crate) fn allocation(random: &mut Random, whole: u8) -> u8 {
     match random.below(4) {
         0 => random.pick(&[0, 1, 11, 12, 13, whole - 1, whole + 1]),
         1 => random.byte(),
@@ -326,6 +331,15 @@ fn buffer_for(random: &mut Random, packet: &[u8; 12], place: &Place) -> Vec<u8> 
         READ_POSITION => length::POSITION as u64,
         _ => 0,
     };
+    let mut data = buffer_around(random, packet[0], need);
+    if packet[0] == MODE_SELECT {
+        put_speed_list(random, &mut data);
+    }
+    data
+}
+
+/// A buffer of a length near the need; random bytes in it where the command takes them.
+pub(crate) fn buffer_around(random: &mut Random, opcode: u8, need: u64) -> Vec<u8> {
     let length = match random.below(20) {
         _ if need > LARGEST_BUFFER => random.below(3000),
         0 | 1 => need.saturating_sub(1),
@@ -334,19 +348,16 @@ fn buffer_for(random: &mut Random, packet: &[u8; 12], place: &Place) -> Vec<u8> 
         5 => random.below(need + 1),
         _ => need,
     };
-    if packet[0] != WRITE && packet[0] != MODE_SELECT {
+    if opcode != WRITE && opcode != MODE_SELECT {
         return vec![random.byte(); length as usize];
     }
     let mut data = vec![0; length as usize];
     random.fill(&mut data);
-    if packet[0] == MODE_SELECT {
-        put_list(random, &mut data);
-    }
     data
 }
 
-/// A MODE SELECT list, right mostly or wrong in one place.
-fn put_list(random: &mut Random, list: &mut [u8]) {
+/// A MODE SELECT list that sets the speed, right mostly or wrong in one place.
+pub(crate) fn put_speed_list(random: &mut Random, list: &mut [u8]) {
     if list.len() < 32 {
         return;
     }
