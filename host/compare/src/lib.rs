@@ -1,14 +1,17 @@
 //! README: drives the proved engines and the independent model through the same calls and compares every byte after each one.
 //!
-//! [`PacketBench`] and [`PulseBench`] hold an engine's and a model's copy of every record, image and buffer, with guard bytes around
-//! them; each call is made on both and everything is compared. [`packet_sessions`] and [`pulse_sessions`] make the calls: good images
-//! and records mostly, so that deep states are reached, then damage of every kind. The tests in `tests/` run them.
+//! [`PacketBench`], [`FloppyBench`] and [`PulseBench`] hold an engine's and a model's copy of every record, image and buffer, with guard
+//! bytes around them; each call is made on both and everything is compared. [`packet_sessions`], [`floppy_sessions`] and
+//! [`pulse_sessions`] make the calls: good images and records mostly, so that deep states are reached, then damage of every kind. The
+//! tests in `tests/` run them.
 //!
 //! `TAPECARD_SEED` replaces the fixed seed and `TAPECARD_CALLS` the calls made for each drive in random sessions; a difference is
 //! printed with its whole case, and the same seed finds it again. `tests/mutants.rs` plants known mistakes in the model and asks that
 //! each is found. `tests/c_example.rs` compiles, runs and checks the C example and the header.
 
 pub mod bytes;
+mod floppy_bench;
+pub mod floppy_sessions;
 mod guarded;
 mod image_bench;
 mod images;
@@ -20,6 +23,7 @@ pub mod pulse_sessions;
 mod random;
 mod settings;
 
+pub use floppy_bench::FloppyBench;
 pub use guarded::Guarded;
 pub use image_bench::{ImageBench, PacketSeen};
 pub use images::Shape;

@@ -1,6 +1,7 @@
 //! A mistake planted in the model is found, so one in the engine would be.
 
-use compare::{PacketBench, PulseBench, packet_sessions, pulse_sessions, say, seed_wanted};
+use compare::{FloppyBench, PacketBench, PulseBench};
+use compare::{floppy_sessions, packet_sessions, pulse_sessions, say, seed_wanted};
 use model::Bug;
 
 /// Calls within which each mistake must be found.
@@ -12,6 +13,17 @@ fn planted_packet_mistakes_are_found() {
         let seed = seed_wanted();
         let mut bench = PacketBench::new(bug, seed);
         let found = packet_sessions::run(&mut bench, seed, CALLS).is_err();
+        assert!(found, "{bug:?} was not found within {CALLS} calls");
+        say(&format!("{bug:?} found by call {}", bench.seen.calls));
+    }
+}
+
+#[test]
+fn planted_floppy_mistakes_are_found() {
+    for bug in Bug::FLOPPY {
+        let seed = seed_wanted();
+        let mut bench = FloppyBench::new(bug, seed);
+        let found = floppy_sessions::run(&mut bench, seed, CALLS).is_err();
         assert!(found, "{bug:?} was not found within {CALLS} calls");
         say(&format!("{bug:?} found by call {}", bench.seen.calls));
     }

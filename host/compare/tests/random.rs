@@ -3,9 +3,10 @@
 use std::collections::BTreeSet;
 use std::time::Instant;
 
-use compare::{PacketBench, PacketSeen, PulseBench, PulseCall, PulseSeen, Random};
-use compare::{calls_wanted, packet_sessions, pulse_sessions, say, seed_wanted};
+use compare::{FloppyBench, PacketBench, PacketSeen, PulseBench, PulseCall, PulseSeen, Random};
+use compare::{calls_wanted, floppy_sessions, packet_sessions, pulse_sessions, say, seed_wanted};
 use model::Bug;
+use model::floppy;
 use model::packet::{Ending, OPCODES};
 use model::pulse::{Branch, ERRORS};
 use tapecard::bytes::{opcode, page, train, triple};
@@ -20,6 +21,7 @@ const COVERAGE_FROM: u64 = 300_000;
 #[test]
 fn the_named_opcodes_are_the_models() {
     assert_eq!(opcode::ALL, OPCODES);
+    assert_eq!(opcode::FLOPPY, floppy::OPCODES);
 }
 
 #[test]
@@ -40,6 +42,27 @@ fn packet_drive() {
     ));
     if calls >= COVERAGE_FROM {
         packets_went_everywhere(&bench.seen);
+    }
+}
+
+#[test]
+fn floppy_device() {
+    let seed = seed_wanted();
+    let calls = calls_wanted(USUAL_CALLS);
+    let begun = Instant::now();
+    let mut bench = FloppyBench::new(Bug::None, seed);
+    if let Err(difference) = floppy_sessions::run(&mut bench, seed, calls) {
+        panic!("{difference}");
+    }
+    say(&format!(
+        "floppy device: seed {seed:#x}, {} calls in {} sessions compared in {:.1} s, {} kinds of ending",
+        bench.seen.calls,
+        bench.origin.session,
+        begun.elapsed().as_secs_f64(),
+        bench.seen.endings.len()
+    ));
+    if calls >= COVERAGE_FROM {
+        floppy_packets_went_everywhere(&bench.seen);
     }
 }
 
@@ -88,11 +111,16 @@ fn long_pulse_session() {
 }
 
 fn packets_went_everywhere(seen: &PacketSeen) {
+    assert_eq!(seen.triples, triples());
+    ended_every_way(seen, &wanted_endings());
+}
+
+/// Refused by each number, every first byte looked at, and each of these endings met.
+fn ended_every_way(seen: &PacketSeen, wanted: &[(u8, u8, Ending)]) {
     let refusals: Vec<u8> = seen.refusals.keys().copied().collect();
     assert_eq!(refusals, [1, 2, 3, 4]);
-    assert_eq!(seen.triples, triples());
     assert_eq!(seen.opcodes.len(), 256, "every opcode was looked at");
-    for (opcode, variant, ending) in wanted_endings() {
+    for &(opcode, variant, ending) in wanted {
         assert!(
             seen.endings.contains_key(&(opcode, variant, ending)),
             "opcode {opcode:02X}h, variant {variant}, never ended with {ending:?}"
@@ -155,6 +183,15 @@ const OWN_ENDINGS: [(u8, u8, &[Ending]); 27] = {
     ]
 };
 
+/// The endings before a packet's opcode is looked at: three for every packet, two for all but 03h and 12h.
+const EARLY: [Ending; 5] = [
+    Ending::Refused(1),
+    Ending::Refused(2),
+    Ending::Refused(3),
+    Ending::MediumChanged,
+    Ending::WasReset,
+];
+
 /// Every way that a packet can end, by opcode and variant.
 fn wanted_endings() -> Vec<(u8, u8, Ending)> {
     use Ending::*;
@@ -176,12 +213,78 @@ fn wanted_endings() -> Vec<(u8, u8, Ending)> {
         opcode::LOCATE,
         opcode::READ_POSITION,
     ] {
-        let early = [Refused(1), Refused(2), Refused(3), MediumChanged, WasReset];
-        wanted.extend(early.map(|ending| (opcode, 0, ending)));
+        wanted.extend(EARLY.map(|ending| (opcode, 0, ending)));
     }
     for opcode in [opcode::REQUEST_SENSE, opcode::INQUIRY] {
-        let early = [Refused(1), Refused(2), Refused(3)];
-        wanted.extend(early.map(|ending| (opcode, 0, ending)));
+        wanted.extend(EARLY[..3].iter().map(|&ending| (opcode, 0, ending)));
+    }
+    wanted
+}
+
+fn floppy_packets_went_everywhere(seen: &PacketSeen) {
+    let starts = [("change", 0), ("change", 2), ("fresh", 0), ("fresh", 2)];
+    assert_eq!(seen.numbers, BTreeSet::from(starts));
+    let mut triples = triples();
+    for of_the_stream in [triple::FILEMARK, triple::EARLY_WARNING, triple::BEGINNING] {
+        triples.remove(&of_the_stream);
+    }
+    assert_eq!(seen.triples, triples);
+    ended_every_way(seen, &wanted_floppy_endings());
+}
+
+/// The endings that each command of the floppy device has of its own, by opcode and variant.
+const OWN_FLOPPY_ENDINGS: [(u8, u8, &[Ending]); 19] = {
+    use Ending::*;
+    use opcode::*;
+    [
+        (TEST_UNIT_READY, 0, &[Good, NotLoaded]),
+        (REQUEST_SENSE, 0, &[Good, Refused(4)]),
+        (READ, 0, &[BadField, NotLoaded, Refused(4), Good]),
+        (READ, 0, &[AtUnreadable, AtEndOfData]),
+        (WRITE, 0, &[BadField, NotLoaded, Protected, Refused(4)]),
+        (WRITE, 0, &[Good, CartridgeFull]),
+        (WRITE_FILEMARK, 0, &[NotLoaded, Protected, Good]),
+        (INQUIRY, 0, &[Good, Refused(4)]),
+        (MODE_SELECT, 0, &[Good]),
+        (MODE_SELECT, 12, &[Good, Refused(4)]),
+        (MODE_SELECT, 28, &[Good, Refused(4), BadList]),
+        (MODE_SELECT, 32, &[Good, Refused(4), BadList]),
+        (MODE_SELECT, 27, &[BadListLength]),
+        (MODE_SENSE, 0, &[Good, Refused(4)]),
+        (MODE_SENSE, page::CODE, &[Good, Refused(4)]),
+        (MODE_SENSE, page::TAPE_CODE, &[Good, Refused(4)]),
+        (MODE_SENSE, 0x2C, &[BadField]),
+        (LOAD_UNLOAD, 0, &[Good]),
+        (LOCATE, 0, &[BadField, NotLoaded, Good]),
+    ]
+};
+
+/// Every way that a packet of the floppy device can end, by opcode and variant.
+fn wanted_floppy_endings() -> Vec<(u8, u8, Ending)> {
+    use Ending::*;
+    let mut wanted = Vec::new();
+    for (opcode, variant, endings) in OWN_FLOPPY_ENDINGS {
+        wanted.extend(endings.iter().map(|&ending| (opcode, variant, ending)));
+    }
+    let unknown = (0..=255).filter(|opcode| !floppy::OPCODES.contains(opcode));
+    wanted.extend(
+        unknown
+            .filter(|&opcode| opcode != opcode::SPACE)
+            .map(|opcode| (opcode, 0, UnknownOpcode)),
+    );
+    wanted.extend([0, 1, 8].map(|variant| (opcode::SPACE, variant, UnknownOpcode)));
+    for opcode in [
+        opcode::TEST_UNIT_READY,
+        opcode::READ,
+        opcode::WRITE,
+        opcode::WRITE_FILEMARK,
+        opcode::LOAD_UNLOAD,
+        opcode::LOCATE,
+    ] {
+        wanted.extend(EARLY.map(|ending| (opcode, 0, ending)));
+    }
+    for opcode in [opcode::REQUEST_SENSE, opcode::INQUIRY] {
+        wanted.extend(EARLY[..3].iter().map(|&ending| (opcode, 0, ending)));
     }
     wanted
 }
