@@ -4,7 +4,8 @@ use std::collections::VecDeque;
 
 use compare::bytes::{long_at, put_long, word_at};
 use compare::packet_sessions::put_count;
-use compare::{PacketBench, PulseBench, PulseCall, Random, Shape, pulse_sessions};
+use compare::pulse_sessions;
+use compare::{FloppyBench, ImageBench, PacketBench, PulseBench, PulseCall, Random, Shape};
 use model::Bug;
 use tapecard::bytes::opcode;
 
@@ -30,7 +31,7 @@ fn packet_bench(position: u32, warning: u16) -> PacketBench {
     bench
 }
 
-fn send(bench: &mut PacketBench, opcode: u8, byte_1: u8, count: u32) {
+fn send<const RECORD: usize>(bench: &mut ImageBench<RECORD>, opcode: u8, byte_1: u8, count: u32) {
     let mut packet = [0; 12];
     packet[0] = opcode;
     packet[1] = byte_1;
@@ -38,36 +39,36 @@ fn send(bench: &mut PacketBench, opcode: u8, byte_1: u8, count: u32) {
     send_packet(bench, &packet);
 }
 
-fn send_packet(bench: &mut PacketBench, packet: &[u8]) {
+fn send_packet<const RECORD: usize>(bench: &mut ImageBench<RECORD>, packet: &[u8]) {
     if let Err(difference) = bench.send(packet, &[0x55; 1024]) {
         panic!("{difference}");
     }
 }
 
-fn sense_bytes(bench: &mut PacketBench) -> Vec<u8> {
+fn sense_bytes<const RECORD: usize>(bench: &mut ImageBench<RECORD>) -> Vec<u8> {
     send(bench, opcode::REQUEST_SENSE, 0, 20);
     bench.data()[..20].to_vec()
 }
 
-fn status(bench: &PacketBench) -> u8 {
+fn status<const RECORD: usize>(bench: &ImageBench<RECORD>) -> u8 {
     assert_eq!(bench.answer()[0], 0);
     bench.answer()[1]
 }
 
-fn blocks(bench: &PacketBench) -> u32 {
+fn blocks<const RECORD: usize>(bench: &ImageBench<RECORD>) -> u32 {
     long_at(bench.answer(), 4)
 }
 
-fn position(bench: &PacketBench) -> u32 {
+fn position<const RECORD: usize>(bench: &ImageBench<RECORD>) -> u32 {
     long_at(bench.record(), 0)
 }
 
-fn residue(bench: &PacketBench) -> u32 {
+fn residue<const RECORD: usize>(bench: &ImageBench<RECORD>) -> u32 {
     assert_eq!(bench.record()[11] & 1, 1);
     long_at(bench.record(), 12)
 }
 
-fn triple(bench: &PacketBench) -> [u8; 3] {
+fn triple<const RECORD: usize>(bench: &ImageBench<RECORD>) -> [u8; 3] {
     let record = bench.record();
     [record[8], record[9], record[10]]
 }
@@ -150,6 +151,94 @@ fn cut_packets() {
     assert_eq!(bench.answer()[0], 1);
     send_packet(&mut bench, &[0; 12]);
     assert_eq!(status(&bench), 0);
+}
+
+/// Image C 4, B 512, W 4, kinds 1 7 1 2, U 4; the fresh record with its attention cleared, at this position.
+fn floppy_bench(position: u8) -> FloppyBench {
+    let shape = Shape {
+        size: 512,
+        capacity: 4,
+        recorded: 4,
+        warning: 4,
+        kinds_gap: 0,
+        blocks_gap: 0,
+        tail: 0,
+        protected: false,
+    };
+    let mut image = shape.image(&mut Random::new(9));
+    image[21] = 0;
+    image[32..36].copy_from_slice(&[1, 7, 1, 2]);
+    let mut record = [0; 32];
+    record[3] = position;
+    record[4] = 1;
+    record[16..24].copy_from_slice(&[0, 0, 1, 0, 0, 4, 0, 1]);
+    let mut bench = FloppyBench::new(Bug::None, 0);
+    bench.begin(&record, &image);
+    bench
+}
+
+/// A list with density 22, fill byte 6Ch and the flag WDAM, and these as BSEG, SEGTRK and TRKS.
+fn send_list(bench: &mut FloppyBench, parameters: [u8; 5]) {
+    let mut list = [
+        0, 0, 0, 0, 0, 0, 0, 0, 0, 0, 0, 0, 0x2B, 0x0E, 22, 0, 0x6C, 0, 0, 0, 0, 0, 0, 0, 0, 0, 0,
+        0x80,
+    ];
+    list[17..22].copy_from_slice(&parameters);
+    let packet = [opcode::MODE_SELECT, 0, 0, 0, 28, 0, 0, 0, 0, 0, 0, 0];
+    if let Err(difference) = bench.send(&packet, &list) {
+        panic!("{difference}");
+    }
+}
+
+#[test]
+fn a_floppy_read_is_one_short_at_an_unreadable_block() {
+    let mut bench = floppy_bench(1);
+    send(&mut bench, opcode::READ, 1, 2);
+    assert_eq!((blocks(&bench), position(&bench)), (0, 2));
+    let plate = [
+        0xF0, 0, 3, 0, 0, 0, 1, 0x0C, 0, 0, 0, 0, 0x11, 0, 0, 0, 0, 0, 0, 0,
+    ];
+    assert_eq!(sense_bytes(&mut bench), plate);
+    send(&mut bench, opcode::READ, 1, 2);
+    assert_eq!((blocks(&bench), position(&bench)), (1, 4));
+    assert_eq!((residue(&bench), triple(&bench)), (0, [3, 0x11, 0]));
+    send(&mut bench, opcode::READ, 1, 2);
+    assert_eq!((blocks(&bench), position(&bench)), (0, 4));
+    assert_eq!((residue(&bench), triple(&bench)), (2, [8, 0, 5]));
+}
+
+#[test]
+fn a_floppy_write_ends_at_the_product() {
+    let mut bench = floppy_bench(3);
+    send(&mut bench, opcode::WRITE, 1, 2);
+    assert_eq!((status(&bench), blocks(&bench)), (2, 1));
+    assert_eq!((residue(&bench), position(&bench)), (1, 4));
+    assert_eq!(bench.image()[8..12], [0, 0, 0, 4]);
+    assert_eq!(bench.image()[32..36], [1, 7, 1, 1]);
+    assert_eq!(sense_bytes(&mut bench)[2], 0x4D);
+    let mut bench = floppy_bench(0);
+    send(&mut bench, opcode::WRITE, 1, 1);
+    assert_eq!((status(&bench), blocks(&bench)), (0, 1));
+}
+
+#[test]
+fn a_floppy_list_and_a_load() {
+    let mut bench = floppy_bench(3);
+    send_list(&mut bench, [1, 0, 5, 0, 1]);
+    assert_eq!((triple(&bench), position(&bench)), ([5, 0x26, 0], 3));
+    send_list(&mut bench, [1, 0, 1, 0, 2]);
+    assert_eq!((status(&bench), position(&bench)), (0, 0));
+    let parameters = [22, 0x6C, 1, 0x80, 0, 1, 0, 2, 0, 0, 0, 0, 0, 0, 0, 0];
+    assert_eq!(bench.record()[16..], parameters);
+    let target = |block| [opcode::LOCATE, 0, 0, 0, 0, 0, block, 0, 0, 0, 0, 0];
+    send_packet(&mut bench, &target(1));
+    assert_eq!((status(&bench), position(&bench)), (0, 1));
+    send_packet(&mut bench, &target(2));
+    assert_eq!((triple(&bench), position(&bench)), ([5, 0x24, 0], 1));
+    send(&mut bench, opcode::LOAD_UNLOAD, 0, 1);
+    let reset = [0, 0, 1, 0, 0, 4, 0, 1, 0, 0, 0, 0, 0, 0, 0, 0];
+    assert_eq!(bench.record()[16..], reset);
+    assert_eq!(position(&bench), 0);
 }
 
 fn pulse_bench() -> PulseBench {
