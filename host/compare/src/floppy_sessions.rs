@@ -22,19 +22,20 @@ const WEIGHTS: [(u8, u64); 10] = [
     (LOCATE, 14),
 ];
 
-/// BSEG, SEGTRK and TRKS whose product is far above any capacity; in 16 or 32 bits it would be small.
-const FAR_ABOVE: [Factors; 7] = [
+/// BSEG, SEGTRK and TRKS.
+pub type Factors = (u8, u16, u16);
+
+/// Factors whose product is above every capacity, though in 32 or in 16 bits it would be small.
+pub const FAR_ABOVE: [Factors; 8] = [
     (255, 65_535, 65_535),
     (4, 32_768, 32_768),
-    (164, 19_825, 1_321),
     (16, 16_384, 16_384),
+    (128, 1_024, 32_768),
+    (164, 19_825, 1_321),
     (1, 256, 256),
     (1, 6, 10_923),
     (2, 1, 32_769),
 ];
-
-/// BSEG, SEGTRK and TRKS.
-pub type Factors = (u8, u16, u16);
 
 /// Makes calls, session after session, until `calls` are compared.
 pub fn run(bench: &mut FloppyBench, random_seed: u64, calls: u64) -> Result<(), Box<Difference>> {

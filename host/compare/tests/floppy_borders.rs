@@ -2,23 +2,13 @@
 //! the largest images.
 
 use compare::bytes::{long_at, put_long, put_word};
-use compare::floppy_sessions::{Factors, put_factors};
+use compare::floppy_sessions::{FAR_ABOVE, Factors, put_factors};
 use compare::{Difference, FloppyBench, Random, Shape, say};
 use model::Bug;
 use model::packet::Ending;
 use tapecard::bytes::{length, opcode, page};
 
 type Outcome = Result<(), Box<Difference>>;
-
-/// Products above every capacity; the second to the fourth are 0 or 4 in 32 bits, the last two 0 and 2 in 16.
-const FAR_ABOVE: [Factors; 6] = [
-    (255, 65_535, 65_535),
-    (4, 32_768, 32_768),
-    (128, 1_024, 32_768),
-    (164, 19_825, 1_321),
-    (1, 256, 256),
-    (2, 1, 32_769),
-];
 
 fn agree(outcome: Outcome) {
     if let Err(difference) = outcome {
@@ -69,7 +59,10 @@ fn mode_sense(page: u8, asked: u8) -> [u8; 12] {
     packet
 }
 
-const SELECT: [u8; 12] = [opcode::MODE_SELECT, 0, 0, 0, 28, 0, 0, 0, 0, 0, 0, 0];
+/// MODE SELECT of a list that sets the tape parameters.
+fn select() -> [u8; 12] {
+    plain(opcode::MODE_SELECT, 0, length::MODE_WITH_TAPE_PAGE as u8)
+}
 
 /// A list that sets these tape parameters, with 77h wherever else a byte is free.
 fn list_of(factors: Factors) -> [u8; length::MODE_WITH_TAPE_PAGE] {
@@ -330,9 +323,9 @@ fn moving_calls() -> Vec<([u8; 12], Vec<u8>)> {
         ] {
             calls.push((packet, blocks.clone()));
         }
-        calls.push((SELECT, list_of((count, 1, 1)).to_vec()));
-        calls.push((SELECT, list_of((1, u16::from(count), 1)).to_vec()));
-        calls.push((SELECT, list_of((1, 1, u16::from(count))).to_vec()));
+        calls.push((select(), list_of((count, 1, 1)).to_vec()));
+        calls.push((select(), list_of((1, u16::from(count), 1)).to_vec()));
+        calls.push((select(), list_of((1, 1, u16::from(count))).to_vec()));
     }
     calls
 }
@@ -422,8 +415,12 @@ fn every_parameter_list() {
             let mut list = list_of((1, 3, 1));
             list[at] = value;
             bench.begin(&record_at(3, (4, 1, 1)), &image);
-            agree(bench.send(&SELECT, &list).map(|_| ()));
-            agree(bench.send(&TAPE_PAGE, &[0; 40]).map(|_| ()));
+            agree(bench.send(&select(), &list).map(|_| ()));
+            agree(
+                bench
+                    .send(&mode_sense(page::TAPE_CODE, 255), &[0; 40])
+                    .map(|_| ()),
+            );
         }
     }
     say(&format!(
@@ -432,25 +429,10 @@ fn every_parameter_list() {
     ));
 }
 
-const TAPE_PAGE: [u8; 12] = [
-    opcode::MODE_SENSE,
-    0,
-    page::TAPE_CODE,
-    0,
-    255,
-    0,
-    0,
-    0,
-    0,
-    0,
-    0,
-    0,
-];
-
 /// "a list that makes the product exceed C is 5/26/00, and one that puts it below P sets P 0" (02, A1).
 fn list_sets(bench: &mut FloppyBench, image: &[u8], position: u32, factors: Factors) -> Outcome {
     bench.begin(&record_at(position, (1, 2, 2)), image);
-    let ending = bench.send(&SELECT, &list_of(factors))?;
+    let ending = bench.send(&select(), &list_of(factors))?;
     let (first, second, third) = factors;
     let product = u64::from(first) * u64::from(second) * u64::from(third);
     let kept = product >= u64::from(position);
@@ -462,7 +444,7 @@ fn list_sets(bench: &mut FloppyBench, image: &[u8], position: u32, factors: Fact
         (Ending::Good, 0)
     };
     assert_eq!((ending, long_at(bench.record(), 0)), expected);
-    bench.send(&TAPE_PAGE, &[0; 40])?;
+    bench.send(&mode_sense(page::TAPE_CODE, 255), &[0; 40])?;
     Ok(())
 }
 
@@ -495,7 +477,7 @@ fn to_the_end_of_a_large_image(bench: &mut FloppyBench, size: usize) -> Outcome 
         ((1, 3, 21_845), Ending::Good),
         ((255, 257, 1), Ending::Good),
     ] {
-        assert_eq!(bench.send(&SELECT, &list_of(factors))?, ending);
+        assert_eq!(bench.send(&select(), &list_of(factors))?, ending);
     }
     assert_eq!(bench.send(&locate(65_535), &[])?, Ending::BadField);
     assert_eq!(bench.send(&locate(65_280), &[])?, Ending::Good);
