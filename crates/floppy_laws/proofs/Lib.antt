@@ -1,5 +1,6 @@
 pub mod Keeping
 pub mod Leaving
+pub mod Locating
 pub mod PlateTable
 pub mod ReadingBack
 pub mod Refusals

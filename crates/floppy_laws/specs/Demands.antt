@@ -10,9 +10,10 @@ use Rattle.numbers.specs.Member.{isIn}
 use Rattle.numbers.specs.Outcomes.{Settles}
 use Rattle.numbers.specs.Over.{part}
 use Rattle.image.specs.Header.{fieldsOf, headerLength}
-use Rattle.opcodes.specs.declared.Command.the-variants.{Read, Write, ModeSelect, LoadUnload}
+use Rattle.opcodes.specs.declared.Command.the-variants.{Read, Write, ModeSelect, LoadUnload, Locate}
+use Rattle.packet_state.specs.declared.state.Attention.the-variants.{Nothing}
 use Rattle.packet_state.specs.States.{speeds, withSense}
-use Rattle.packet_state.specs.Senses.{wrongList}
+use Rattle.packet_state.specs.Senses.{invalidField, wrongList}
 use Rattle.packet_parts.specs.Answers.{goodStatus}
 use Rattle.packet_parts.specs.Requests.{loadBit}
 use Rattle.packet_laws.specs.Plates.{sent}
@@ -23,7 +24,7 @@ use Rattle.floppy_parts.specs.declared.tape.Floppy.{Floppy}
 use Rattle.floppy_parts.specs.declared.tape.FloppyOutcome.{FloppyOutcome}
 use Rattle.floppy_parts.specs.Headers.{isFull}
 use Rattle.floppy_parts.specs.Replies.{tapeList}
-use Rattle.floppy_parts.specs.Requests.{floppyRequest, blocksAsked}
+use Rattle.floppy_parts.specs.Requests.{floppyRequest, blocksAsked, blockNumber}
 use Rattle.floppy_parts.specs.Rules.{keepsFloppyRules}
 use Rattle.floppy_parts.specs.Tape.{product, resetTape, listedTape, floppyOf}
 use Rattle.floppy.specs.Packet.{FreshPromise, ChangedPromise, PacketPromise, floppyDevice, floppyStep, freshFloppy, changedFloppy}
@@ -132,6 +133,17 @@ abbrev pub BeyondKept : Type 0
 BeyondKept =
     (s : List ℕ) (f : Floppy) (packet buf : List ℕ) → numberOf (floppyStep s f packet buf) ≡ 0
     → Kept s f packet buf (floppyStep s f packet buf)
+
+-- "LOCATE runs to BSEG*SEGTRK*TRKS - 1 .. a locate past the last block is 5/24/00": one that begins names a block below the product, and the device then
+-- stands there; one past it, with no attention pending, changes the sense alone.
+pub record LocateExactly : Type 0 where
+  pub below : (s : List ℕ) (f : Floppy) (packet buf : List ℕ) → BeginsWork s f packet buf → floppyRequest packet .command ≡ Locate
+      → blockNumber (floppyRequest packet) < endOf f
+  pub there : (s : List ℕ) (f : Floppy) (packet buf : List ℕ) → BeginsWork s f packet buf → floppyRequest packet .command ≡ Locate
+      → placeOf (floppyStep s f packet buf .state) ≡ blockNumber (floppyRequest packet)
+  pub past : (s : List ℕ) (f : Floppy) (packet buf : List ℕ) → numberOf (floppyStep s f packet buf) ≡ 0 → floppyRequest packet .command ≡ Locate
+      → f .shared .attention ≡ Nothing → endOf f ≤ blockNumber (floppyRequest packet)
+      → floppyStep s f packet buf .state ≡ floppyOf (withSense (f .shared) invalidField) (f .tape)
 
 -- "page 2Bh is .. set; its list has 28 bytes": such a list is taken exactly when its page bytes are right and its product is at most C; then the parameters
 -- are the list's, and P is 0 where the product fell below it, else it stays. Nothing else but a load sets them.
