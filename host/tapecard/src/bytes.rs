@@ -1,5 +1,5 @@
 //! The bytes that packets, answers and trains are made of, by their names: each stands here and nowhere else in host/, but for
-//! the model, which is written from 01 alone.
+//! the model, which is written from 01 and 02 alone.
 
 /// First bytes of the packets that the packet drive knows.
 pub mod opcode {
