@@ -49,10 +49,10 @@ use Rattle.floppy_parts.specs.Headers.{isFull}
 use Rattle.floppy_parts.specs.Replies.{tapeList}
 use Rattle.floppy_parts.specs.Requests.{floppyRequest}
 use Rattle.floppy_parts.specs.Tape.{product, resetTape, listedTape, joined}
+use Rattle.floppy_parts.specs.Settings.{goodTapeList, selectedTape, loadedTape, tapeAfter}
 use Rattle.floppy_parts.proofs.FullLaws.{full-image}
 use Rattle.floppy.specs.Packet.{floppyDevice, floppyStep, mounted}
-use Rattle.floppy.specs.Work.{readEnding, readEnds, readWork, writeEnding, writeEnds, writeWork, goodTapeList, workOf}
-use Rattle.floppy.specs.Work.{selectedTape, loadedTape, tapeAfter}
+use Rattle.floppy.specs.Work.{readEnding, readEnds, readWork, writeEnding, writeEnds, writeWork, workOf}
 use Rattle.floppy_laws.proofs.Leaving.{accepted-leaves}
 use Rattle.floppy_laws.proofs.Refusals.{refused-keeps}
 use Rattle.floppy_laws.proofs.Selecting.{Selected, speed-set, speed-wrong, tape-set, tape-wrong, nothing-set, selected}

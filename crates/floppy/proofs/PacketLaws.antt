@@ -28,9 +28,10 @@ use Rattle.floppy_parts.specs.Headers.{fullHeaderOf}
 use Rattle.floppy_parts.specs.Requests.{floppyRequest}
 use Rattle.floppy_parts.specs.Rules.{keepsFloppyRules}
 use Rattle.floppy_parts.specs.Tape.{product, resetTape, floppyOf, joined, leaves}
+use Rattle.floppy_parts.specs.Settings.{tapeAfter}
 use Rattle.floppy_parts.proofs.FullLaws.{full-of, full-fields, short-of}
 use Rattle.floppy.specs.Packet.{floppyDevice, floppyStep, mounted}
-use Rattle.floppy.specs.Work.{workOf, tapeAfter}
+use Rattle.floppy.specs.Work.{workOf}
 
 -- ---- the ways of `mount`
 

@@ -1,9 +1,12 @@
 -- The ways of the commands' functions.
 -- Assumes nothing.
-use mathlib.Core.Path.{_≡_, ap}
+use mathlib.Core.Path.{_≡_, refl, ap}
 use mathlib.Core.Bool.{Bool, true, false}
-use mathlib.Core.List.{List, _++_}
+use mathlib.Core.List.{List, [], _∷_, _++_}
 use Prim.Native.Nat.{ℕ, _≤_}
+use types.Run.{OneOf, miss}
+use denote.Enum.Declared.{tagOf}
+use Rattle.opcodes.proofs.Command
 use Rattle.image.specs.declared.header.Header.{Header}
 use Rattle.opcodes.specs.declared.Command.{Command}
 use Rattle.opcodes.specs.declared.Command.the-variants.{Unknown, TestUnitReady, Rewind, RequestSense, Read, Write, WriteFilemarks, Space, Inquiry}
@@ -25,7 +28,6 @@ use Rattle.packet_parts.specs.Requests.{pageCode, loadBit}
 use Rattle.packet_work.specs.Moving.{moves}
 use Rattle.packet_work.specs.Settings.{loadWork}
 use Rattle.floppy_parts.specs.declared.tape.Tape.{Tape}
-use Rattle.floppy_parts.specs.Checks.{askedBy}
 use Rattle.floppy_parts.specs.Replies.{floppyInquiry, floppyMode, tapePage, tapeMode, modeBytes}
 use Rattle.floppy_parts.specs.Tape.{product}
 use Rattle.numbers.specs.Choice.{_≡ᵇ_}
@@ -66,35 +68,31 @@ module _ (h : Header) (st : State) (t : Tape) (q : Request) where
 
 -- ---- by command
 
-pub needed-as : (k d : Command) (h : Header) (end : ℕ) (q : Request) (n : ℕ) → k ≡ d → askedBy k h end q .needed ≤ n → askedBy d h end q .needed ≤ n
-needed-as k d h end q n e l = rw e at l
+-- the tags of the commands that do nothing more, and of first bytes that are none
+abbrev pub quiet : List ℕ
+quiet = 0 ∷ 1 ∷ 2 ∷ 6 ∷ 7 ∷ 13 ∷ []
+
+quiet-work : (k : Command) (s : List ℕ) (h : Header) (st : State) (t : Tape) (q : Request) (buf : List ℕ) → OneOf quiet (tagOf Command.the-type k)
+    → done (ends st Good 0 0) s buf ≡ workOf k s h st t q buf
+unfolding workOf
+quiet-work Unknown s h st t q buf o = refl
+quiet-work TestUnitReady s h st t q buf o = refl
+quiet-work Rewind s h st t q buf o = refl
+quiet-work RequestSense s h st t q buf o = absurd (miss quiet 3 tt o)
+quiet-work Read s h st t q buf o = absurd (miss quiet 4 tt o)
+quiet-work Write s h st t q buf o = absurd (miss quiet 5 tt o)
+quiet-work WriteFilemarks s h st t q buf o = refl
+quiet-work Space s h st t q buf o = refl
+quiet-work Inquiry s h st t q buf o = absurd (miss quiet 8 tt o)
+quiet-work ModeSelect s h st t q buf o = absurd (miss quiet 9 tt o)
+quiet-work ModeSense s h st t q buf o = absurd (miss quiet 10 tt o)
+quiet-work LoadUnload s h st t q buf o = absurd (miss quiet 11 tt o)
+quiet-work Locate s h st t q buf o = absurd (miss quiet 12 tt o)
+quiet-work ReadPosition s h st t q buf o = refl
 
 module _ (k : Command) (s : List ℕ) (h : Header) (st : State) (t : Tape) (q : Request) (buf : List ℕ) (r : Outcome) where
-  -- commands that do nothing more, and first bytes that are none
-  module _ (p : r ≡ ends st Good 0 0) where
-    pub was-unknown : k ≡ Unknown → done r s buf ≡ workOf k s h st t q buf
-    unfolding workOf
-    was-unknown e = rw (e, p)
-
-    pub was-tested : k ≡ TestUnitReady → done r s buf ≡ workOf k s h st t q buf
-    unfolding workOf
-    was-tested e = rw (e, p)
-
-    pub was-rewind : k ≡ Rewind → done r s buf ≡ workOf k s h st t q buf
-    unfolding workOf
-    was-rewind e = rw (e, p)
-
-    pub was-flushed : k ≡ WriteFilemarks → done r s buf ≡ workOf k s h st t q buf
-    unfolding workOf
-    was-flushed e = rw (e, p)
-
-    pub was-space : k ≡ Space → done r s buf ≡ workOf k s h st t q buf
-    unfolding workOf
-    was-space e = rw (e, p)
-
-    pub was-position : k ≡ ReadPosition → done r s buf ≡ workOf k s h st t q buf
-    unfolding workOf
-    was-position e = rw (e, p)
+  pub was-quiet : OneOf quiet (tagOf Command.the-type k) → r ≡ ends st Good 0 0 → done r s buf ≡ workOf k s h st t q buf
+  was-quiet o p = rw p (quiet-work k s h st t q buf o)
 
   pub was-selected : k ≡ ModeSelect → r ≡ selectWork h st (q .length) buf → done r s buf ≡ workOf k s h st t q buf
   unfolding workOf
@@ -118,7 +116,8 @@ module _ (k : Command) (s : List ℕ) (h : Header) (st : State) (t : Tape) (q : 
     unfolding workOf
     was-read end e l p = rw (e, ← l) p
 
-    pub was-written : (end : ℕ) → k ≡ Write → end ≡ product t → done r new buf ≡ writeWork s h end st (q .length) buf → done r new buf ≡ workOf k s h st t q buf
+    pub was-written : (end : ℕ) → k ≡ Write → end ≡ product t → done r new buf ≡ writeWork s h end st (q .length) buf
+        → done r new buf ≡ workOf k s h st t q buf
     unfolding workOf
     was-written end e l p = rw (e, ← l) p
 

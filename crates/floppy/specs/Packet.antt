@@ -20,7 +20,8 @@ use Rattle.floppy_parts.specs.Headers.{isFull}
 use Rattle.floppy_parts.specs.Requests.{floppyRequest}
 use Rattle.floppy_parts.specs.Rules.{keepsFloppyRules}
 use Rattle.floppy_parts.specs.Tape.{product, resetTape, withShared, joined, leaves, beside}
-use Rattle.floppy.specs.Work.{workOf, tapeAfter}
+use Rattle.floppy_parts.specs.Settings.{tapeAfter}
+use Rattle.floppy.specs.Work.{workOf}
 
 -- the work, and the tape parameters after it
 abbrev pub floppyWork : List ℕ → Header → Floppy → Request → List ℕ → Left Floppy

@@ -1,7 +1,7 @@
 -- The work of each command of the floppy tape device, once nothing before it ended the packet.
 -- Assumes nothing.
 use Prim.Native.Nat.{ℕ, _-_, _≤_}
-use mathlib.Core.Bool.{Bool, not, _&&_}
+use mathlib.Core.Bool.{not}
 use mathlib.Core.List.{List}
 use mathlib.Core.Path.{_≡_}
 use Rattle.numbers.specs.Choice.{if_then_else_, _≡ᵇ_, _<ᵇ_, _≤ᵇ_}
@@ -29,9 +29,10 @@ use Rattle.packet_work.specs.Moving.{moves}
 use Rattle.packet_work.specs.Replies.{replyWork}
 use Rattle.packet_work.specs.Settings.{speedWork, loadWork}
 use Rattle.floppy_parts.specs.declared.tape.Tape.{Tape}
-use Rattle.floppy_parts.specs.Replies.{floppyInquiry, tapePage, tapePageLength, tapeList, modeBytes}
+use Rattle.floppy_parts.specs.Replies.{floppyInquiry, tapeList, modeBytes}
 use Rattle.floppy_parts.specs.Requests.{blocksAsked, blockNumber}
-use Rattle.floppy_parts.specs.Tape.{product, pageByte, resetTape, listedTape}
+use Rattle.floppy_parts.specs.Settings.{goodTapeList}
+use Rattle.floppy_parts.specs.Tape.{product, listedTape}
 
 -- what a packet has passed when it comes to its work: the image has the header h, and the record keeps rule 3
 pub record Passed (s : List ℕ) (h : Header) (st : State) (t : Tape) : Type 0 where
@@ -42,8 +43,8 @@ pub record Passed (s : List ℕ) (h : Header) (st : State) (t : Tape) : Type 0 w
 
 -- ---- 08h READ
 
--- "Reads and writes stop at the product as the stream device does at U and at C; .. kind 2 counts as unreadable. Its residue on an unreadable block leaves out
--- the block in error"
+-- "Reads and writes stop at the product as the stream device does at U and at C; .. kind 2 counts as unreadable. Its residue on an unreadable block leaves
+-- out the block in error"; no READ stops at the beginning
 unfoldable pub readEnding : Stop → ℕ → Ending
 readEnding Full left = Good
 readEnding AtFilemark left = Check (unreadableBlock (left - 1))
@@ -75,11 +76,6 @@ writeWork s h end st asked buf =
 
 -- ---- 15h MODE SELECT
 
--- page 2Bh, "a list that makes the product exceed C is 5/26/00"
-unfoldable pub goodTapeList : Header → List ℕ → Bool
-goodTapeList h list =
-    (pageByte list 0 ≡ᵇ tapePage) && (pageByte list 1 ≡ᵇ tapePageLength) && (product (listedTape list) ≤ᵇ h .capacity)
-
 -- "one that puts it below P sets P 0"
 unfoldable pub placeUnder : ℕ → ℕ → ℕ
 placeUnder end p = if end <ᵇ p then 0 else p
@@ -98,7 +94,7 @@ selectWork h st asked list =
 
 -- ---- by command
 
--- 10h "flushes and stores nothing"; 2Bh "LOCATE runs to BSEG*SEGTRK*TRKS - 1", judged before the work
+-- 10h "flushes and stores nothing"; 2Bh "LOCATE runs to BSEG*SEGTRK*TRKS - 1", judged before the work; 01h, 11h, 34h and every unknown byte end before it
 unfoldable pub workOf : Command → List ℕ → Header → State → Tape → Request → List ℕ → Left State
 workOf Unknown s h st t q buf = done (ends st Good 0 0) s buf
 workOf TestUnitReady s h st t q buf = done (ends st Good 0 0) s buf
@@ -114,29 +110,3 @@ workOf ModeSense s h st t q buf = replyWork (modeBytes h st t q) (q .length) st 
 workOf LoadUnload s h st t q buf = done (loadWork st (loadBit q)) s buf
 workOf Locate s h st t q buf = done (ends (atPlace st (blockNumber q)) Good 0 0) s buf
 workOf ReadPosition s h st t q buf = done (ends st Good 0 0) s buf
-
--- ---- the tape parameters after it
-
--- "page 2Bh is read and set": by a good list of 28 bytes
-unfoldable pub selectedTape : Header → Tape → ℕ → List ℕ → Tape
-selectedTape h t asked list = if (asked ≡ᵇ tapeList) && goodTapeList h list then listedTape list else t
-
--- "After a load .. BSEG is 1, SEGTRK C, TRKS 1 and the rest 0"
-unfoldable pub loadedTape : Header → Tape → Bool → Tape
-loadedTape h t load = if load then resetTape (h .capacity) else t
-
-unfoldable pub tapeAfter : Command → Header → Tape → Request → List ℕ → Tape
-tapeAfter Unknown h t q list = t
-tapeAfter TestUnitReady h t q list = t
-tapeAfter Rewind h t q list = t
-tapeAfter RequestSense h t q list = t
-tapeAfter Read h t q list = t
-tapeAfter Write h t q list = t
-tapeAfter WriteFilemarks h t q list = t
-tapeAfter Space h t q list = t
-tapeAfter Inquiry h t q list = t
-tapeAfter ModeSelect h t q list = selectedTape h t (q .length) list
-tapeAfter ModeSense h t q list = t
-tapeAfter LoadUnload h t q list = loadedTape h t (loadBit q)
-tapeAfter Locate h t q list = t
-tapeAfter ReadPosition h t q list = t

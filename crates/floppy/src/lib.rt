@@ -6,12 +6,12 @@ ghost use Rattle.packet_parts.specs.Shell.{decided};
 ghost use Rattle.floppy_parts.specs.Tape.{floppyOf, leaves};
 ghost use Rattle.floppy.specs.Work.{Passed};
 ghost use Rattle.floppy.specs.Packet.{floppyDevice, mounted, FreshPromise, ChangedPromise, PacketPromise};
-use crate::work::tape_after;
 use crate::work::work;
 use floppy_parts::checks::verdict;
 use floppy_parts::headers::full_header_of;
 use floppy_parts::requests::floppy_request;
 use floppy_parts::rules::keeps_floppy_rules;
+use floppy_parts::settings::tape_after;
 use floppy_parts::tape::Floppy;
 use floppy_parts::tape::FloppyOutcome;
 use floppy_parts::tape::Tape;
@@ -73,7 +73,8 @@ fn decide(
     buf: &mut [u8],
 ) -> FloppyOutcome
     requires { ⌜ Passed (now image) h state tape ⌝ }
-    ensures { λ r. ⌜ leaves r (now (image .exit)) (now (buf .exit)) ≡ decided floppyDevice (now (image .entry)) h (floppyOf state tape) q (now (buf .entry)) ⌝ }
+    ensures { λ r. ⌜ leaves r (now (image .exit)) (now (buf .exit))
+        ≡ decided floppyDevice (now (image .entry)) h (floppyOf state tape) q (now (buf .entry)) ⌝ }
 {
     let found = verdict(h, state, product_of(tape), q, buf.len());
     match found {

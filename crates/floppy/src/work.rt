@@ -9,16 +9,14 @@ ghost use Rattle.packet_parts.specs.Replies.{replyEnds, repliedInto};
 ghost use Rattle.floppy_parts.specs.Checks.{askedBy};
 ghost use Rattle.floppy_parts.specs.Replies.{modeLength, modeBytes};
 ghost use Rattle.floppy_parts.specs.Tape.{product};
-ghost use Rattle.floppy.specs.Work.{Passed, readEnding, readWork, writeEnding, writeWork, goodTapeList, placeUnder, tapeWork, selectWork};
-ghost use Rattle.floppy.specs.Work.{workOf, selectedTape, loadedTape, tapeAfter};
+ghost use Rattle.floppy.specs.Work.{Passed, readEnding, readWork, writeEnding, writeWork, placeUnder, tapeWork, selectWork, workOf};
 use floppy_parts::replies::TAPE_LIST;
 use floppy_parts::replies::TAPE_PAGE;
-use floppy_parts::replies::TAPE_PAGE_LENGTH;
 use floppy_parts::replies::tape_mode;
+use floppy_parts::settings::is_good_tape_list;
 use floppy_parts::tape::Tape;
 use floppy_parts::tape::listed_tape;
 use floppy_parts::tape::product_of;
-use floppy_parts::tape::reset_tape;
 use image::header::Header;
 use numbers::flags::is_set;
 use opcodes::Command;
@@ -26,7 +24,6 @@ use packet_parts::answers::end;
 use packet_parts::replies::AFTER_SHORT;
 use packet_parts::replies::DEVICE_PAGE;
 use packet_parts::replies::FULL_LIST;
-use packet_parts::replies::SHORT_LIST;
 use packet_parts::replies::mode_header;
 use packet_parts::replies::reply;
 use packet_parts::requests::Request;
@@ -144,16 +141,6 @@ fn mode_sense(h: Header, state: State, tape: Tape, q: Request, buf: &mut [u8]) -
 
 // ---- 15h
 
-fn is_good_tape_list(h: Header, list: &[u8]) -> bool
-    requires { ⌜ 28 ≤ length (now list) ⌝ }
-    ensures { λ r. ⌜ r ≡ goodTapeList h (now (list .entry)) ⌝ }
-{
-    let listed = product_of(listed_tape(list));
-    (list[SHORT_LIST] == TAPE_PAGE)
-        & (list[SHORT_LIST + 1] == TAPE_PAGE_LENGTH)
-        & (listed <= h.capacity)
-}
-
 // 02, A1: "one that puts it below P sets P 0".
 fn place_under(end: usize, p: usize) -> usize
     ensures { λ r. ⌜ r ≡ placeUnder end p ⌝ }
@@ -211,70 +198,14 @@ pub fn work(
     let command = q.command;
     let last = product_of(tape);
     match command {
-        Command::Unknown => end(state, Ending::Good, 0, 0),
-        Command::TestUnitReady => end(state, Ending::Good, 0, 0),
-        Command::Rewind => end(state, Ending::Good, 0, 0),
         Command::RequestSense => request_sense(state, q.length, buf),
         Command::Read => read(image, h, last, state, q.length, buf),
         Command::Write => write(image, h, last, state, q.length, buf),
-        Command::WriteFilemarks => end(state, Ending::Good, 0, 0),
-        Command::Space => end(state, Ending::Good, 0, 0),
         Command::Inquiry => inquiry(UNASSIGNED, state, q.length, buf),
         Command::ModeSelect => mode_select(h, state, q.length, buf),
         Command::ModeSense => mode_sense(h, state, tape, q, buf),
         Command::LoadUnload => load_unload(state, is_set(q.length, 1)),
         Command::Locate => end(stand_at(state, q.target), Ending::Good, 0, 0),
-        Command::ReadPosition => end(state, Ending::Good, 0, 0),
-    }
-}
-
-// ---- the tape parameters after it
-
-fn selected_tape(h: Header, tape: Tape, asked: u8, list: &[u8]) -> Tape
-    requires { ⌜ asked ≤ length (now list) ⌝ }
-    ensures { λ r. ⌜ r ≡ selectedTape h tape asked (now (list .entry)) ⌝ }
-{
-    let parameters = asked as usize == TAPE_LIST;
-    if parameters {
-        let good = is_good_tape_list(h, list);
-        if good {
-            return listed_tape(list);
-        }
-    }
-    tape
-}
-
-// 02, A1: "After a load .. BSEG is 1, SEGTRK C, TRKS 1 and the rest 0".
-fn loaded_tape(h: Header, tape: Tape, load: bool) -> Tape
-    requires { ⌜ h .capacity ≤ 65535 ⌝ }
-    ensures { λ r. ⌜ r ≡ loadedTape h tape load ⌝ }
-{
-    if load {
-        return reset_tape(h.capacity);
-    }
-    tape
-}
-
-pub fn tape_after(h: Header, tape: Tape, q: Request, list: &[u8]) -> Tape
-    requires { ⌜ h .capacity ≤ 65535 ⌝ }
-    requires { ⌜ askedBy (q .command) h (product tape) q .needed ≤ length (now list) ⌝ }
-    ensures { λ r. ⌜ r ≡ tapeAfter (q .command) h tape q (now (list .entry)) ⌝ }
-{
-    let command = q.command;
-    match command {
-        Command::Unknown => tape,
-        Command::TestUnitReady => tape,
-        Command::Rewind => tape,
-        Command::RequestSense => tape,
-        Command::Read => tape,
-        Command::Write => tape,
-        Command::WriteFilemarks => tape,
-        Command::Space => tape,
-        Command::Inquiry => tape,
-        Command::ModeSelect => selected_tape(h, tape, q.length, list),
-        Command::ModeSense => tape,
-        Command::LoadUnload => loaded_tape(h, tape, is_set(q.length, 1)),
-        Command::Locate => tape,
-        Command::ReadPosition => tape,
+        _ => end(state, Ending::Good, 0, 0), // 00h, and 10h, which only flushes
     }
 }

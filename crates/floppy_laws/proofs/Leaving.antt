@@ -57,10 +57,11 @@ use Rattle.floppy_parts.specs.Replies.{floppyInquiry, tapePage, tapeList, flopp
 use Rattle.floppy_parts.specs.Requests.{floppyRequest, blocksAsked, blockNumber}
 use Rattle.floppy_parts.specs.Rules.{keepsFloppyRules}
 use Rattle.floppy_parts.specs.Tape.{product, resetTape, listedTape, floppyOf, beside}
+use Rattle.floppy_parts.specs.Settings.{loadedTape, tapeAfter}
 use Rattle.floppy_parts.proofs.FullLaws.{full-image}
 use Rattle.floppy_parts.proofs.RuledLaws.{Ruled, ruled-of, reset-product}
 use Rattle.floppy.specs.Packet.{floppyDevice, floppyStep}
-use Rattle.floppy.specs.Work.{readEnding, readEnds, readWork, writeEnding, writeEnds, writeWork, placeUnder, workOf, loadedTape, tapeAfter}
+use Rattle.floppy.specs.Work.{readEnding, readEnds, readWork, writeEnding, writeEnds, writeWork, placeUnder, workOf}
 use Rattle.floppy_laws.specs.Words.{placeOf, Untouched}
 use Rattle.floppy_laws.proofs.Selecting.{Selected, speed-set, speed-wrong, tape-set, tape-wrong, nothing-set, selected}
 

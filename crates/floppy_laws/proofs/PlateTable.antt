@@ -21,8 +21,8 @@ use Rattle.floppy_parts.specs.Headers.{isFull}
 use Rattle.floppy_parts.specs.Requests.{floppyRequest}
 use Rattle.floppy_parts.specs.Rules.{keepsFloppyRules}
 use Rattle.floppy_parts.specs.Tape.{product, resetTape, listedTape}
-use Rattle.floppy.specs.Work.{readEnding, readEnds, readWork, writeEnding, writeEnds, writeWork, goodTapeList, placeUnder, tapeWork, selectWork, workOf}
-use Rattle.floppy.specs.Work.{selectedTape, loadedTape, tapeAfter}
+use Rattle.floppy_parts.specs.Settings.{goodTapeList, selectedTape, loadedTape, tapeAfter}
+use Rattle.floppy.specs.Work.{readEnding, readEnds, readWork, writeEnding, writeEnds, writeWork, placeUnder, tapeWork, selectWork, workOf}
 use Rattle.floppy_laws.specs.Demands.{PlatesPrint, WorkBegins}
 
 pub plates-print : PlatesPrint

@@ -28,10 +28,11 @@ use Rattle.floppy_parts.specs.declared.tape.Floppy.{Floppy}
 use Rattle.floppy_parts.specs.Checks.{askedBy}
 use Rattle.floppy_parts.specs.Headers.{isFull}
 use Rattle.floppy_parts.specs.Requests.{floppyRequest, blocksAsked}
+use Rattle.floppy_parts.specs.Settings.{tapeAfter}
 use Rattle.floppy_parts.proofs.FullLaws.{full-image}
 use Rattle.floppy_parts.proofs.RuledLaws.{Ruled, ruled-of}
 use Rattle.floppy.specs.Packet.{floppyDevice, floppyStep}
-use Rattle.floppy.specs.Work.{readEnds, readWork, workOf, tapeAfter}
+use Rattle.floppy.specs.Work.{readEnds, readWork, workOf}
 use Rattle.floppy_laws.specs.Words.{placeOf, endOf, IsData}
 use Rattle.floppy_laws.specs.History.{StoresAt, Later, at-once, asked, replaced}
 use Rattle.floppy_laws.specs.Demands.{ReadsBack, ReadGives, ReadMoves}

@@ -31,8 +31,9 @@ use Rattle.floppy_parts.specs.declared.tape.Tape.{Tape}
 use Rattle.floppy_parts.specs.Replies.{tapePage, tapePageLength, tapeList}
 use Rattle.floppy_parts.specs.Requests.{floppyRequest}
 use Rattle.floppy_parts.specs.Tape.{product, pageByte, listedTape, floppyOf}
+use Rattle.floppy_parts.specs.Settings.{goodTapeList, selectedTape, loadedTape, tapeAfter}
 use Rattle.floppy.specs.Packet.{floppyDevice}
-use Rattle.floppy.specs.Work.{goodTapeList, placeUnder, tapeWork, selectWork, workOf, selectedTape, loadedTape, tapeAfter}
+use Rattle.floppy.specs.Work.{placeUnder, tapeWork, selectWork, workOf}
 use Rattle.floppy_laws.specs.Demands.{SelectExactly}
 use Rattle.floppy_laws.specs.Words.{TakesList}
 use Rattle.floppy_laws.proofs.Working.{step-is}

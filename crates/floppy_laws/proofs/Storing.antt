@@ -22,10 +22,11 @@ use Rattle.floppy_parts.specs.declared.tape.Floppy.{Floppy}
 use Rattle.floppy_parts.specs.Checks.{askedBy}
 use Rattle.floppy_parts.specs.Headers.{isFull}
 use Rattle.floppy_parts.specs.Requests.{floppyRequest, blocksAsked}
+use Rattle.floppy_parts.specs.Settings.{tapeAfter}
 use Rattle.floppy_parts.proofs.FullLaws.{full-image}
 use Rattle.floppy_parts.proofs.RuledLaws.{Ruled, ruled-of}
 use Rattle.floppy.specs.Packet.{floppyDevice}
-use Rattle.floppy.specs.Work.{writeEnds, writeWork, workOf, tapeAfter}
+use Rattle.floppy.specs.Work.{writeEnds, writeWork, workOf}
 use Rattle.floppy_laws.specs.Words.{placeOf, endOf, IsData}
 use Rattle.floppy_laws.specs.Demands.{BlocksStored}
 use Rattle.floppy_laws.proofs.Working.{step-is, room-is}

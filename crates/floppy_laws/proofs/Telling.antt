@@ -19,12 +19,13 @@ use Rattle.packet_laws.proofs.Endings.{senseOf, statusFor, ends-is}
 use Rattle.packet_laws.proofs.Refusals.{begins-passes}
 use Rattle.floppy_parts.specs.declared.tape.Floppy.{Floppy}
 use Rattle.floppy_parts.specs.Requests.{floppyRequest, blocksAsked}
+use Rattle.floppy_parts.specs.Settings.{tapeAfter}
 use Rattle.floppy_parts.proofs.RuledLaws.{ruled-of}
 use Rattle.floppy.specs.Packet.{floppyDevice}
-use Rattle.floppy.specs.Work.{readEnding, readEnds, readWork, writeEnding, writeEnds, writeWork, workOf, tapeAfter}
+use Rattle.floppy.specs.Work.{readEnding, readEnds, readWork, writeEnding, writeEnds, writeWork, workOf}
 use Rattle.floppy_laws.specs.Words.{placeOf, endOf, Unreadable}
 use Rattle.floppy_laws.specs.Words.{ReadWay, all-copied, met-bad-block, WriteWay, all-stored}
-use Rattle.floppy_laws.specs.Demands.{ReadTellsWhy, WriteTellsWhy, MovedPlusResidue, BytesAreBlocks}
+use Rattle.floppy_laws.specs.Demands.{ReadTellsWhy, WriteTellsWhy, MovedPlusResidue, BytesAreBlocks, RecordKept}
 use Rattle.floppy_laws.proofs.Working.{step-is}
 
 -- ---- the way of each run
@@ -109,6 +110,16 @@ moved-plus-residue =
 pub bytes-are-blocks : BytesAreBlocks
 unfolding workOf tapeAfter readWork readEnds writeWork writeEnds
 bytes-are-blocks =
+    record {
+      read = λ s f packet buf b c. rw (step-is s f packet buf b Read c, ends-is);
+      write = λ s f packet buf b c. rw (step-is s f packet buf b Write c, ends-is);
+    }
+
+-- ---- what of the record is kept
+
+pub record-kept : RecordKept
+unfolding workOf tapeAfter readWork readEnds writeWork writeEnds
+record-kept =
     record {
       read = λ s f packet buf b c. rw (step-is s f packet buf b Read c, ends-is);
       write = λ s f packet buf b c. rw (step-is s f packet buf b Write c, ends-is);

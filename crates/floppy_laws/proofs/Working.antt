@@ -11,8 +11,9 @@ use Rattle.floppy_parts.specs.declared.tape.Floppy.{Floppy}
 use Rattle.floppy_parts.specs.Checks.{askedBy}
 use Rattle.floppy_parts.specs.Requests.{floppyRequest}
 use Rattle.floppy_parts.specs.Tape.{product, beside}
+use Rattle.floppy_parts.specs.Settings.{tapeAfter}
 use Rattle.floppy.specs.Packet.{floppyDevice, floppyStep}
-use Rattle.floppy.specs.Work.{workOf, tapeAfter}
+use Rattle.floppy.specs.Work.{workOf}
 use Rattle.floppy_laws.specs.Words.{BeginsWork}
 
 module _ (s : List ℕ) (f : Floppy) (packet buf : List ℕ) (b : BeginsWork s f packet buf) where

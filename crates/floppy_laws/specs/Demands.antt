@@ -30,7 +30,8 @@ use Rattle.floppy_parts.specs.Tape.{product, resetTape, listedTape, floppyOf}
 use Rattle.floppy.specs.Packet.{FreshPromise, ChangedPromise, PacketPromise, floppyDevice, floppyStep, freshFloppy, changedFloppy}
 use Rattle.floppy_laws.specs.History.{Later}
 use Rattle.floppy_laws.specs.Plates.{image, placed, listOf, select, allAgree, plates, BeginsAndMoves}
-use Rattle.floppy_laws.specs.Words.{placeOf, endOf, senseIn, BeginsWork, TakesList, IsData, EveryReadGives, ReadEnds, WriteEnds, StoppedAtBadBlock, Kept}
+use Rattle.floppy_laws.specs.Words.{placeOf, endOf, senseIn, movedTo, BeginsWork, TakesList, IsData, EveryReadGives, ReadEnds, WriteEnds}
+use Rattle.floppy_laws.specs.Words.{StoppedAtBadBlock, Kept}
 
 -- What every packet device promises: "1: packet is not 12 bytes", whatever the image, the record and the buffer; nothing changes.
 abbrev pub CutPacket : Type 0
@@ -92,6 +93,13 @@ pub record BytesAreBlocks : Type 0 where
       → bytesOf (floppyStep s f packet buf) ≡ blocksOf (floppyStep s f packet buf) * fieldsOf s .size
   pub write : (s : List ℕ) (f : Floppy) (packet buf : List ℕ) → BeginsWork s f packet buf → floppyRequest packet .command ≡ Write
       → bytesOf (floppyStep s f packet buf) ≡ blocksOf (floppyStep s f packet buf) * fieldsOf s .size
+
+-- A READ or WRITE that begins changes P and the sense of the record, nothing else: no tape parameter.
+pub record RecordKept : Type 0 where
+  pub read : (s : List ℕ) (f : Floppy) (packet buf : List ℕ) → BeginsWork s f packet buf → floppyRequest packet .command ≡ Read
+      → floppyStep s f packet buf .state ≡ movedTo f (floppyStep s f packet buf)
+  pub write : (s : List ℕ) (f : Floppy) (packet buf : List ℕ) → BeginsWork s f packet buf → floppyRequest packet .command ≡ Write
+      → floppyStep s f packet buf .state ≡ movedTo f (floppyStep s f packet buf)
 
 -- Each block that a READ moves is a data block of the image, and stands whole in the buffer.
 abbrev pub ReadGives : Type 0

@@ -13,12 +13,13 @@ use Rattle.image.specs.Sameness.{IsBlock, SameElement, Outside}
 use Rattle.opcodes.specs.declared.Command.the-variants.{Read, Write}
 use Rattle.packet_state.specs.declared.state.Sense.{Sense}
 use Rattle.packet_state.specs.Senses.{noSense, unreadableBlock, endOfData, volumeOverflow}
+use Rattle.packet_state.specs.States.{atPlace, withSense}
 use Rattle.packet_parts.specs.Answers.{Left, goodStatus, checkCondition}
 use Rattle.packet_laws.specs.Words.{statusOf, blocksOf, bytesOf, gives, Begins}
 use Rattle.floppy_parts.specs.declared.tape.Floppy.{Floppy}
 use Rattle.floppy_parts.specs.Requests.{floppyRequest}
 use Rattle.floppy_parts.specs.Replies.{tapePage, tapePageLength}
-use Rattle.floppy_parts.specs.Tape.{product, pageByte, listedTape}
+use Rattle.floppy_parts.specs.Tape.{product, pageByte, listedTape, floppyOf}
 use Rattle.floppy.specs.Packet.{floppyDevice, floppyStep}
 
 -- ---- the record
@@ -32,6 +33,10 @@ endOf f = product (f .tape)
 
 abbrev pub senseIn : Left Floppy → Sense
 senseIn x = x .state .shared .sense
+
+-- the record f with the place and the sense that x leaves
+abbrev pub movedTo : Floppy → Left Floppy → Floppy
+movedTo f x = floppyOf (withSense (atPlace (f .shared) (placeOf (x .state))) (senseIn x)) (f .tape)
 
 -- ---- the work
 

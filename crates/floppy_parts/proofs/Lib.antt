@@ -1,2 +1,4 @@
+pub mod AskedLaws
 pub mod FullLaws
 pub mod RuledLaws
+pub mod SettingLaws

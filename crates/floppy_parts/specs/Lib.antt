@@ -4,3 +4,4 @@ pub mod Rules
 pub mod Requests
 pub mod Replies
 pub mod Checks
+pub mod Settings

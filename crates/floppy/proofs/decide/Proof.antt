@@ -44,9 +44,10 @@ tape-after-requires c κs =
 
 work-requires : tie.Need-work-requires
 work-requires c κs =
-    let start = c .before .before .before .before .before .before .before .before .before .before in
-    let w = works-clear _ _ _ _ _ (c .before .before .before .before .before .before .verdict .ensures) (c .before .before .before .before .enum-told .given .1) .1 in
-    (start .pre, room-of _ _ _ _ _ _ (c .before .before .before .before .before .before .before .product-of .ensures) w)
+    let told = c .before .before .before .before in
+    let judged = told .before .before in
+    let w = works-clear _ _ _ _ _ (judged .verdict .ensures) (told .enum-told .given .1) .1 in
+    (judged .before .before .before .before .pre, room-of _ _ _ _ _ _ (judged .before .product-of .ensures) w)
 
 joined-requires-3 : tie.Need-joined-requires-3
 joined-requires-3 c κs = search needs

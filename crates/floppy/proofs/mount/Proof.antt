@@ -31,7 +31,10 @@ end-requires : tie.Need-end-requires
 end-requires c κs = search needs
 
 reset-tape-requires : tie.Need-reset-tape-requires
-reset-tape-requires c κs = let g = sound _ _ (full-header _ _ (sym (c .before .before .before .before .full-header-of .ensures) ∙ c .before .before .h .given .1)) in omega arith
+reset-tape-requires c κs =
+    let judged = c .before .before in
+    let g = sound _ _ (full-header _ _ (sym (judged .before .before .full-header-of .ensures) ∙ judged .h .given .1)) in
+    omega arith
 
 joined-requires-2 : tie.Need-joined-requires-2
 joined-requires-2 c κs = search needs

@@ -46,9 +46,11 @@ floppy-request-requires c κs = search needs
 
 decide-requires : tie.Need-decide-requires
 decide-requires c κs =
-    let r = ruled-of _ _ (sym (c .before .before .before .before .keeps-floppy-rules .ensures) ∙ c .before .before .before .if2 .taken) in
+    let ruled = c .before .before .before .before in
+    let judged = ruled .before .before in
+    let r = ruled-of _ _ (sym (ruled .keeps-floppy-rules .ensures) ∙ c .before .before .before .if2 .taken) in
     record {
-      header = full-header _ _ (sym (c .before .before .before .before .before .before .before .before .full-header-of .ensures) ∙ c .before .before .before .before .before .before .h .given .1);
+      header = full-header _ _ (sym (judged .before .before .full-header-of .ensures) ∙ judged .h .given .1);
       within = r .within;
       place = r .place;
       key = r .key;
@@ -67,7 +69,7 @@ returns-3 c =
     let ruled = asked .before .before .before in
     let judged = ruled .before .before in
     let found = judged .before .before in
-    let start = c .before .before .before .before .before .before .before .before .before .before .before .before .before .before .before .before .before .before .before .before .before in
+    let start = found .before .before .before .before .before .before .before .before in
     went-on _ (start .args .before) _ _ _ (found .before .before .if1 .left) _ (found .full-header-of .ensures) _ _ (judged .h .given .1)
     (ruled .keeps-floppy-rules .ensures) _ _ _ (asked .before .before .if2 .taken) (asked .floppy-request .ensures) (decided .decide .ensures)
 

@@ -21,7 +21,10 @@ slice-aggregate-reply : tie.Need-slice-aggregate-reply
 slice-aggregate-reply c = search needs
 
 reply-requires : tie.Need-reply-requires
-reply-requires c κs = let p = rw (c .before .before .before .before .if1 .taken) at (c .before .before .before .before .before .before .before .before .pre) in omega arith
+reply-requires c κs =
+    let paged = c .before .before .before .before in
+    let p = rw (paged .if1 .taken) at (paged .before .before .before .before .pre) in
+    omega arith
 
 same-length : tie.Need-same-length
 same-length c = search needs
@@ -29,9 +32,10 @@ same-length c = search needs
 returns : tie.Need-returns
 returns c =
     let r = c .before .before in
-    let start = c .before .before .before .before .before .before .before .before .before .before .before in
-    let e = device-shown (start .args .h) (start .args .state) (start .args .tape) (start .args .q) (c .before .before .before .before .before .before .before .if1 .taken) in
-    replied-as _ _ _ _ _ _ _ (c .before .before .before .before .before .device-mode .ensures ∙ e) (r .reply .ensures .0) (r .reply .ensures .1)
+    let paged = r .before .before .before .before .before in
+    let given = paged .before .before .before .before .args in
+    let e = device-shown (given .h) (given .state) (given .tape) (given .q) (paged .if1 .taken) in
+    replied-as _ _ _ _ _ _ _ (r .before .before .before .device-mode .ensures ∙ e) (r .reply .ensures .0) (r .reply .ensures .1)
 
 tape-mode-requires : tie.Need-tape-mode-requires
 tape-mode-requires c κs = search needs
@@ -40,7 +44,10 @@ slice-aggregate-reply-2 : tie.Need-slice-aggregate-reply-2
 slice-aggregate-reply-2 c = search needs
 
 reply-requires-2 : tie.Need-reply-requires-2
-reply-requires-2 c κs = let p = rw (c .before .before .before .before .before .if1 .left, c .before .before .before .if2 .taken) at (c .before .before .before .before .before .before .before .before .before .pre) in omega arith
+reply-requires-2 c κs =
+    let paged = c .before .before .before in
+    let p = rw (paged .before .before .if1 .left, paged .if2 .taken) at (paged .before .before .before .before .before .before .pre) in
+    omega arith
 
 same-length-2 : tie.Need-same-length-2
 same-length-2 c = search needs
@@ -48,9 +55,10 @@ same-length-2 c = search needs
 returns-2 : tie.Need-returns-2
 returns-2 c =
     let r = c .before .before in
-    let start = c .before .before .before .before .before .before .before .before .before .before .before .before in
-    let e = tape-shown (start .args .h) (start .args .state) (start .args .tape) (start .args .q) (c .before .before .before .before .before .before .before .before .if1 .left) (c .before .before .before .before .before .before .if2 .taken) in
-    replied-as _ _ _ _ _ _ _ (c .before .before .before .before .before .tape-mode .ensures ∙ e) (r .reply2 .ensures .0) (r .reply2 .ensures .1)
+    let paged = r .before .before .before .before in
+    let given = paged .before .before .before .before .before .before .args in
+    let e = tape-shown (given .h) (given .state) (given .tape) (given .q) (paged .before .before .if1 .left) (paged .if2 .taken) in
+    replied-as _ _ _ _ _ _ _ (r .before .before .before .tape-mode .ensures ∙ e) (r .reply2 .ensures .0) (r .reply2 .ensures .1)
 
 mode-header-requires : tie.Need-mode-header-requires
 mode-header-requires c κs = search needs
@@ -59,7 +67,10 @@ slice-aggregate-reply-3 : tie.Need-slice-aggregate-reply-3
 slice-aggregate-reply-3 c = search needs
 
 reply-requires-3 : tie.Need-reply-requires-3
-reply-requires-3 c κs = let p = rw (c .before .before .before .before .before .if1 .left, c .before .before .before .if2 .left) at (c .before .before .before .before .before .before .before .before .before .pre) in omega arith
+reply-requires-3 c κs =
+    let paged = c .before .before .before in
+    let p = rw (paged .before .before .if1 .left, paged .if2 .left) at (paged .before .before .before .before .before .before .pre) in
+    omega arith
 
 same-length-3 : tie.Need-same-length-3
 same-length-3 c = search needs
@@ -67,9 +78,10 @@ same-length-3 c = search needs
 returns-3 : tie.Need-returns-3
 returns-3 c =
     let r = c .before .before in
-    let start = c .before .before .before .before .before .before .before .before .before .before .before .before in
-    let e = header-shown (start .args .h) (start .args .state) (start .args .tape) (start .args .q) (c .before .before .before .before .before .before .before .before .if1 .left) (c .before .before .before .before .before .before .if2 .left) in
-    replied-as _ _ _ _ _ _ _ (c .before .before .before .before .before .mode-header .ensures ∙ e) (r .reply3 .ensures .0) (r .reply3 .ensures .1)
+    let paged = r .before .before .before .before in
+    let given = paged .before .before .before .before .before .before .args in
+    let e = header-shown (given .h) (given .state) (given .tape) (given .q) (paged .before .before .if1 .left) (paged .if2 .left) in
+    replied-as _ _ _ _ _ _ _ (r .before .before .before .mode-header .ensures ∙ e) (r .reply3 .ensures .0) (r .reply3 .ensures .1)
 
 pub mode-sense-spec : {M : Type 1} → statement M
 mode-sense-spec =

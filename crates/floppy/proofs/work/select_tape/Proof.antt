@@ -25,7 +25,18 @@ end-requires c κs = search needs
 
 returns : tie.Need-returns
 unfolding tapeWork
-returns c = simp (c .end .ensures, c .before .stand-at .ensures, c .before .before .place-under .ensures, c .before .before .before .product-of .ensures, c .before .before .before .before .listed-tape .ensures, c .before .before .before .before .before .if1 .taken, ← c .before .before .before .before .before .before .is-good-tape-list .ensures)
+returns c =
+    let listed = c .before .before .before in
+    let good = listed .before .before .before in
+    simp (
+      c .end .ensures,
+      c .before .stand-at .ensures,
+      c .before .before .place-under .ensures,
+      listed .product-of .ensures,
+      listed .before .listed-tape .ensures,
+      listed .before .before .if1 .taken,
+      ← good .is-good-tape-list .ensures,
+    )
 
 wrong-list-requires : tie.Need-wrong-list-requires
 wrong-list-requires c κs = search needs

@@ -140,11 +140,15 @@ returns-4 c = simp (c .always .ensures, c .before .least .ensures, c .before .be
 
 returns-5 : tie.Need-returns-5
 unfolding askedBy
-returns-5 c = simp (c .on-tape2 .ensures, c .before .transfer-bytes .ensures, ← c .before .before .is-set .ensures, c .before .before .before .enum-told5 .given .1)
+returns-5 c =
+    let fixed = c .before .before in
+    simp (c .on-tape2 .ensures, c .before .transfer-bytes .ensures, ← fixed .is-set .ensures, fixed .before .enum-told5 .given .1)
 
 returns-6 : tie.Need-returns-6
 unfolding askedBy
-returns-6 c = simp (c .storing .ensures, c .before .transfer-bytes2 .ensures, ← c .before .before .is-set2 .ensures, c .before .before .before .enum-told6 .given .1)
+returns-6 c =
+    let fixed = c .before .before in
+    simp (c .storing .ensures, c .before .transfer-bytes2 .ensures, ← fixed .is-set2 .ensures, fixed .before .enum-told6 .given .1)
 
 returns-7 : tie.Need-returns-7
 unfolding askedBy
@@ -164,7 +168,10 @@ returns-10 c = simp (c .settings .ensures, ← c .before .bad-length .ensures, c
 
 returns-11 : tie.Need-returns-11
 unfolding askedBy
-returns-11 c = simp (c .settings2 .ensures, c .before .least3 .ensures, c .before .before .mode-length .ensures, ← c .before .before .before .bad-page .ensures, c .before .before .before .before .before .enum-told11 .given .1)
+returns-11 c =
+    let b = c .before .before in
+    let told = b .before .before .before .enum-told11 .given .1 in
+    simp (c .settings2 .ensures, c .before .least3 .ensures, b .mode-length .ensures, ← b .before .bad-page .ensures, told)
 
 returns-12 : tie.Need-returns-12
 unfolding askedBy

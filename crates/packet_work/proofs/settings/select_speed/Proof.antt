@@ -23,8 +23,9 @@ end-requires c κs = search needs
 returns : tie.Need-returns
 unfolding speedWork
 returns c =
-    let g = c .before .before .before .before in
-    simp (c .end .ensures, c .before .with-speed .ensures, c .before .before .before .if1 .taken, ← g .is-good-list .ensures, c .before .before .count2 .ensures .0)
+    let speed = c .before .before in
+    let good = speed .before .before in
+    simp (c .end .ensures, c .before .with-speed .ensures, speed .before .if1 .taken, ← good .is-good-list .ensures, speed .count2 .ensures .0)
 
 wrong-list-requires : tie.Need-wrong-list-requires
 wrong-list-requires c κs = search needs

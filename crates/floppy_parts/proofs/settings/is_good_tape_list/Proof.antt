@@ -1,9 +1,9 @@
--- `work::is_good_tape_list` meets its contract.
+-- `settings::is_good_tape_list` meets its contract.
 -- Assumes nothing.
-use Rattle.floppy.specs.Work.{goodTapeList}
+use Rattle.floppy_parts.specs.Settings.{goodTapeList}
 use borrow.Author.Needs.{needs}
-use Rattle.floppy.proofs.work.is_good_tape_list.Statement.{statement}
-use Rattle.floppy.proofs.work.is_good_tape_list.Tie as tie
+use Rattle.floppy_parts.proofs.settings.is_good_tape_list.Statement.{statement}
+use Rattle.floppy_parts.proofs.settings.is_good_tape_list.Tie as tie
 
 listed-tape-requires : tie.Need-listed-tape-requires
 listed-tape-requires c κs = search needs

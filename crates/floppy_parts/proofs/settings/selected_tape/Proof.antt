@@ -1,16 +1,22 @@
--- `work::selected_tape` meets its contract.
+-- `settings::selected_tape` meets its contract.
 -- Assumes nothing.
 use native.Mathlib.Omega.{arith}
 use borrow.Author.Tests.{eqb-true}
-use Rattle.floppy.specs.Work.{selectedTape}
-use Rattle.floppy.proofs.work.selected_tape.Statement.{statement}
-use Rattle.floppy.proofs.work.selected_tape.Tie as tie
+use Rattle.floppy_parts.specs.Settings.{selectedTape}
+use Rattle.floppy_parts.proofs.settings.selected_tape.Statement.{statement}
+use Rattle.floppy_parts.proofs.settings.selected_tape.Tie as tie
 
 is-good-tape-list-requires : tie.Need-is-good-tape-list-requires
-is-good-tape-list-requires c κs = let e = eqb-true (c .before .before .args .asked) 28 (c .if1 .taken) in omega (arith, c .before .before .pre)
+is-good-tape-list-requires c κs =
+    let start = c .before .before in
+    let e = eqb-true (start .args .asked) 28 (c .if1 .taken) in
+    omega (arith, start .pre)
 
 listed-tape-requires : tie.Need-listed-tape-requires
-listed-tape-requires c κs = let e = eqb-true (c .before .before .before .before .args .asked) 28 (c .before .before .if1 .taken) in omega (arith, c .before .before .before .before .pre)
+listed-tape-requires c κs =
+    let start = c .before .before .before .before in
+    let e = eqb-true (start .args .asked) 28 (c .before .before .if1 .taken) in
+    omega (arith, start .pre)
 
 returns : tie.Need-returns
 unfolding selectedTape

@@ -1,9 +1,9 @@
--- `work::loaded_tape` meets its contract.
+-- `settings::loaded_tape` meets its contract.
 -- Assumes nothing.
-use Rattle.floppy.specs.Work.{loadedTape}
+use Rattle.floppy_parts.specs.Settings.{loadedTape}
 use borrow.Author.Needs.{needs}
-use Rattle.floppy.proofs.work.loaded_tape.Statement.{statement}
-use Rattle.floppy.proofs.work.loaded_tape.Tie as tie
+use Rattle.floppy_parts.proofs.settings.loaded_tape.Statement.{statement}
+use Rattle.floppy_parts.proofs.settings.loaded_tape.Tie as tie
 
 reset-tape-requires : tie.Need-reset-tape-requires
 reset-tape-requires c κs = search needs

@@ -1,0 +1,36 @@
+-- The tape parameters stay but for MODE SELECT and LOAD.
+-- Assumes nothing.
+use Prim.Native.Nat.{ℕ}
+use mathlib.Core.List.{List, [], _∷_}
+use mathlib.Core.Path.{_≡_, refl}
+use types.Run.{OneOf, miss}
+use denote.Enum.Declared.{tagOf}
+use Rattle.opcodes.proofs.Command
+use Rattle.image.specs.declared.header.Header.{Header}
+use Rattle.opcodes.specs.declared.Command.{Command}
+use Rattle.opcodes.specs.declared.Command.the-variants.{Unknown, TestUnitReady, Rewind, RequestSense, Read, Write, WriteFilemarks, Space, Inquiry}
+use Rattle.opcodes.specs.declared.Command.the-variants.{ModeSelect, ModeSense, LoadUnload, Locate, ReadPosition}
+use Rattle.packet_parts.specs.declared.requests.Request.{Request}
+use Rattle.floppy_parts.specs.declared.tape.Tape.{Tape}
+use Rattle.floppy_parts.specs.Settings.{tapeAfter}
+
+-- the tags of the commands that set nothing
+abbrev pub idle : List ℕ
+idle = 0 ∷ 1 ∷ 2 ∷ 3 ∷ 4 ∷ 5 ∷ 6 ∷ 7 ∷ 8 ∷ 10 ∷ 12 ∷ 13 ∷ []
+
+pub kept-tape : (k : Command) (h : Header) (t : Tape) (q : Request) (list : List ℕ) → OneOf idle (tagOf Command.the-type k) → t ≡ tapeAfter k h t q list
+unfolding tapeAfter
+kept-tape Unknown h t q list o = refl
+kept-tape TestUnitReady h t q list o = refl
+kept-tape Rewind h t q list o = refl
+kept-tape RequestSense h t q list o = refl
+kept-tape Read h t q list o = refl
+kept-tape Write h t q list o = refl
+kept-tape WriteFilemarks h t q list o = refl
+kept-tape Space h t q list o = refl
+kept-tape Inquiry h t q list o = refl
+kept-tape ModeSelect h t q list o = absurd (miss idle 9 tt o)
+kept-tape ModeSense h t q list o = refl
+kept-tape LoadUnload h t q list o = absurd (miss idle 11 tt o)
+kept-tape Locate h t q list o = refl
+kept-tape ReadPosition h t q list o = refl
