@@ -144,3 +144,34 @@ fn damage_offset_of_blocks(image: &mut [u8], random: &mut Random) {
     ];
     put_long(image, 16, random.pick(&choices));
 }
+
+/// Another protection, early warning or kind, all of them allowed.
+pub struct AllowedEdit {
+    choice: u64,
+    number: u64,
+    capacity: u32,
+    kinds_at: u32,
+}
+
+impl AllowedEdit {
+    pub fn any(random: &mut Random, capacity: u32, kinds_at: u32) -> AllowedEdit {
+        AllowedEdit {
+            choice: random.below(3),
+            number: random.number(),
+            capacity,
+            kinds_at,
+        }
+    }
+
+    pub fn make(&self, image: &mut [u8]) {
+        let number = self.number;
+        match self.choice {
+            0 => image[20] = u8::from(number & 7 == 0),
+            1 => put_word(image, 22, (number % u64::from(self.capacity + 1)) as u16),
+            _ => {
+                let element = (number % u64::from(self.capacity)) as u32;
+                image[(self.kinds_at + element) as usize] = (number >> 32) as u8 % 4;
+            }
+        }
+    }
+}
