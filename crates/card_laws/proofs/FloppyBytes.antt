@@ -31,6 +31,7 @@ use Rattle.floppy_parts.specs.Tape.{flagsByte, resetTape, joined}
 use Rattle.floppy.specs.Packet.{floppyDevice, floppyStep, mounted}
 use Rattle.floppy.specs.Work.{readEnding, readEnds, readWork, writeEnding, writeEnds, writeWork, tapeWork, selectWork, workOf}
 use Rattle.floppy_laws.proofs.Leaving.{accepted-leaves}
+use Rattle.packet_record.specs.PacketRecord.{encodeAnswer}
 use Rattle.floppy_record.specs.FloppyRecord.{decodeFloppy, encodeFloppy, encodeTape}
 use Rattle.tapecard.specs.FloppyCalls.{floppyRecord, floppyLeft, floppyPacketLeft, floppyFreshCall, floppyChangeCall, floppyPacketCall}
 use Rattle.card_laws.specs.Promises.{Bytes, FitsTape, FloppyStaysBytes}
@@ -117,12 +118,22 @@ mount-bytes state image new b =
     let g = full-sound image (not-false _ e) in
     floppy-bytes _ (omega arith) refl (reset-fits (fieldsOf image .capacity) (omega arith)))
 
+mount-answer : (state image : List ℕ) (new : State) → Bytes (floppyLeft state (mounted image (decodeFloppy state) new) .answer)
+unfolding floppyLeft mounted
+mount-answer state image new =
+    either (λ (o : FloppyOutcome). Bytes (encodeAnswer (o .answer))) (not (isFull image))
+    (joined (refused (decodeFloppy state .shared) brokenImage) (decodeFloppy state .tape)) (joined (ends new Good 0 0) (resetTape (fieldsOf image .capacity)))
+    (λ e. answer-bytes (refused (decodeFloppy state .shared) brokenImage) refl)
+    (λ e. answer-bytes (ends new Good 0 0) (ends-fits _ _ _ _))
+
 pub floppy-stays-bytes : FloppyStaysBytes
 unfolding floppyFreshCall floppyChangeCall floppyPacketCall floppyPacketLeft
 floppy-stays-bytes =
     record {
       fresh = λ state image b. mount-bytes state image freshState b;
       change = λ state image b. mount-bytes state image (changedState (decodeFloppy state .shared)) b;
+      fresh-answer = λ state image. mount-answer state image freshState;
+      change-answer = λ state image. mount-answer state image (changedState (decodeFloppy state .shared));
       packet = record-bytes;
       answer = λ state image packet buf.
           answer-bytes (toldOf floppyDevice (floppyStep image (decodeFloppy state) packet buf)) (packet-fits image (decodeFloppy state) packet buf);

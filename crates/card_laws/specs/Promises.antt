@@ -171,6 +171,8 @@ pub record PacketStaysBytes : Type 0 where
 pub record FloppyStaysBytes : Type 0 where
   pub fresh : (state image : List ℕ) → Bytes state → Bytes (floppyFreshCall state image .state)
   pub change : (state image : List ℕ) → Bytes state → Bytes (floppyChangeCall state image .state)
+  pub fresh-answer : (state image : List ℕ) → Bytes (floppyFreshCall state image .answer)
+  pub change-answer : (state image : List ℕ) → Bytes (floppyChangeCall state image .answer)
   pub packet : (state image packet buf : List ℕ) → Bytes state → Bytes buf → Bytes (floppyPacketCall state image packet buf .state)
   pub answer : (state image packet buf : List ℕ) → Bytes (floppyPacketCall state image packet buf .answer)
 

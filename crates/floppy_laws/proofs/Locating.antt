@@ -1,6 +1,6 @@
 -- LOCATE below the product and past it.
 -- Assumes nothing.
-use Prim.Native.Nat.{ℕ, _≤_, _<_}
+use Prim.Native.Nat.{ℕ, _≤_}
 use mathlib.Core.List.{List}
 use mathlib.Core.Path.{_≡_, ap, _∙_}
 use borrow.Author.Tests.{le-leb, leb-false}
@@ -14,7 +14,6 @@ use Rattle.packet_state.specs.States.{withSense}
 use Rattle.packet_parts.specs.Answers.{Left}
 use Rattle.packet_parts.specs.Shell.{foundBy, carriedOut}
 use Rattle.packet_parts.specs.Verdicts.{foundFirst, verdictBy}
-use Rattle.packet_laws.specs.Words.{numberOf}
 use Rattle.packet_laws.proofs.Endings.{ends-is}
 use Rattle.packet_laws.proofs.Refusals.{accepted-passes, begins-unended}
 use Rattle.packet_laws.proofs.Ways.{carried, unended-field, step-passed}
@@ -22,7 +21,7 @@ use Rattle.floppy_parts.specs.declared.tape.Floppy.{Floppy}
 use Rattle.floppy_parts.specs.Checks.{askedBy}
 use Rattle.floppy_parts.specs.Requests.{floppyRequest, blockNumber}
 use Rattle.floppy_parts.specs.Tape.{floppyOf}
-use Rattle.floppy.specs.Packet.{floppyDevice, floppyStep}
+use Rattle.floppy.specs.Packet.{floppyDevice}
 use Rattle.floppy.specs.Work.{workOf}
 use Rattle.floppy_laws.specs.Words.{endOf}
 use Rattle.floppy_laws.specs.Demands.{LocateExactly}

@@ -46,20 +46,17 @@ fn asked_by(command: Command, h: Header, end: usize, q: Request) -> Asked
 {
     let n = q.length as usize;
     match command {
-        Command::Unknown => no_command(),
         Command::TestUnitReady => on_tape(false, 0),
-        Command::Rewind => no_command(),
         Command::RequestSense => always(least(n, SENSE_LENGTH)),
         Command::Read => on_tape(!is_set(q.flags, 1), transfer_bytes(n, h.size)),
         Command::Write => storing(!is_set(q.flags, 1), transfer_bytes(n, h.size)),
         Command::WriteFilemarks => storing(false, 0),
-        Command::Space => no_command(),
         Command::Inquiry => always(least(n, INQUIRY_LENGTH)),
         Command::ModeSelect => settings(false, bad_length(n), n),
         Command::ModeSense => settings(bad_page(q.page % 64), false, least(n, mode_length(q.page))),
         Command::LoadUnload => settings(false, false, 0),
         Command::Locate => on_tape(end <= q.target, 0),
-        Command::ReadPosition => no_command(),
+        _ => no_command(),
     }
 }
 
