@@ -63,7 +63,7 @@ extern "C" {
 #define TAPECARD_POSITION_AT 0       /* 4 bytes: position P */
 #define TAPECARD_LOADED_AT 4         /* 1 byte: bit 0, a cartridge is loaded */
 #define TAPECARD_ATTENTION_AT 5      /* 1 byte: the pending attention */
-#define TAPECARD_SPEED_AT 6          /* 2 bytes: speed, 0, 62, 125, 250 or 500 */
+#define TAPECARD_SPEED_AT 6          /* 2 bytes: speed, 0 (automatic), 62, 125, 250 (fresh) or 500 */
 #define TAPECARD_SENSE_KEY_AT 8      /* 1 byte: sense key, at most 15 */
 #define TAPECARD_SENSE_ASC_AT 9      /* 1 byte: additional sense code */
 #define TAPECARD_SENSE_ASCQ_AT 10    /* 1 byte: its qualifier */
@@ -99,7 +99,7 @@ extern "C" {
 #define TAPECARD_LOCATE 0x2B          /* P = bytes 3-6 */
 #define TAPECARD_READ_POSITION 0x34   /* 20 bytes that tell P */
 
-/* Makes a fresh record: position 0, loaded, attention reset, speed 0, no sense. */
+/* Makes a fresh record: position 0, loaded, attention reset, speed 250, no sense. */
 void tapecard_fresh(uint8_t record[TAPECARD_PACKET_RECORD_LENGTH]);
 
 /* Another cartridge is in: position 0, loaded, attention medium changed, no sense; the speed stays. */

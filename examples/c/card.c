@@ -1,6 +1,7 @@
 /*
- * The drive card from C: two blocks and a filemark go onto a cartridge in memory and come back, a packet that was cut is
- * refused, the floppy device rewrites a block in place, and a pulse drive is recovered by 46 trains.
+ * The drive card from C: a host that wants the automatic speed sets it, two blocks and a filemark go onto a cartridge in memory
+ * and come back, a packet that was cut is refused, the floppy device rewrites a block in place, and a pulse drive is recovered by
+ * 46 trains.
  *
  *     cc -std=c99 -Wall -Wextra -Werror -Iinclude examples/c/card.c target/staticlib/libtapecard.a -o card
  */
@@ -102,6 +103,22 @@ static void send_packet(struct packet_drive *drive, const char *name, uint8_t op
     print_answer(name, drive->record, drive->answer);
 }
 
+/* A fresh drive starts at speed 250; a list of 32 bytes sets another one: 2Ah 12h after its first 12 bytes, the speed in 26-27. */
+static void set_speed(struct packet_drive *drive, uint16_t speed)
+{
+    static const uint8_t select[TAPECARD_PACKET_LENGTH] = {TAPECARD_MODE_SELECT, 0, 0, 0, 32};
+    uint8_t list[32] = {0};
+
+    printf("speed %lu\n", number_at(drive->record + TAPECARD_SPEED_AT, 2));
+    list[12] = 0x2A;
+    list[13] = 0x12;
+    put_number(list + 26, 2, speed);
+    tapecard_packet(drive->record, drive->image, sizeof drive->image, select, sizeof select, list, sizeof list,
+                    drive->answer);
+    print_answer("MODE SELECT", drive->record, drive->answer);
+    printf("speed %lu\n", number_at(drive->record + TAPECARD_SPEED_AT, 2));
+}
+
 static void write_and_read_back(struct packet_drive *drive)
 {
     static const char lines[2][32] = {"The quick brown fox", "jumps over the lazy dog"};
@@ -141,6 +158,7 @@ static void use_packet_drive(void)
     tapecard_fresh(drive.record);
     printf("packet drive, a blank cartridge of %d elements\n", CAPACITY);
     send_packet(&drive, "TEST UNIT READY", TAPECARD_TEST_UNIT_READY, 0, no_data, 0);
+    set_speed(&drive, 0);
     write_and_read_back(&drive);
     send_cut_packet(&drive);
 }

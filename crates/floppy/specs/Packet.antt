@@ -51,7 +51,7 @@ mounted s f next =
     if not (isFull s) then joined (refused (f .shared) brokenImage) (f .tape) else
     joined (ends next Good 0 0) (resetTape (fieldsOf s .capacity))
 
--- 01: "Fresh: P 0, loaded, attention reset, speed 0, sense zero."
+-- the fresh record of every packet device
 abbrev pub freshFloppy : List ℕ → Floppy → FloppyOutcome
 freshFloppy s f = mounted s f freshState
 

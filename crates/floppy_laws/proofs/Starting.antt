@@ -1,21 +1,15 @@
 -- What the fresh record and the cartridge change leave is accepted.
 -- Assumes nothing.
 use native.Mathlib.Omega.{arith}
-use mathlib.Core.Bool.{true}
-use mathlib.Core.Path.{_≡_, refl}
-use Rattle.numbers.specs.Member.{isIn}
 use Rattle.image.specs.Header.{fieldsOf}
-use Rattle.packet_state.specs.States.{speeds, freshState, changedState}
+use Rattle.packet_state.specs.States.{freshState, changedState}
+use Rattle.packet_state.proofs.RecordLaws.{fresh-speed}
 use Rattle.packet_parts.specs.Answers.{ends}
 use Rattle.floppy_parts.specs.Tape.{resetTape, floppyOf}
 use Rattle.floppy_parts.proofs.FullLaws.{full-image}
 use Rattle.floppy_parts.proofs.RuledLaws.{of-ruled, reset-product}
 use Rattle.floppy.specs.Packet.{mounted}
 use Rattle.floppy_laws.specs.Demands.{StartsGood}
-
-fresh-speed : isIn 0 speeds ≡ true
-unfolding isIn
-fresh-speed = refl
 
 pub starts-good : StartsGood
 unfolding mounted ends

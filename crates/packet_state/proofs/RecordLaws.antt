@@ -2,13 +2,13 @@
 -- Assumes nothing.
 use Prim.Native.Nat.{ℕ, _≤_}
 use mathlib.Core.Bool.{true, _&&_}
-use mathlib.Core.Path.{_≡_}
+use mathlib.Core.Path.{_≡_, refl}
 use borrow.Author.Tests.{le-leb, leb-true}
 use lib.Dec.{leb}
 use Rattle.numbers.specs.Member.{isIn}
 use Rattle.numbers.proofs.RuleLaws.{split}
 use Rattle.packet_state.specs.declared.state.State.{State}
-use Rattle.packet_state.specs.States.{speeds, highestKey, keepsRecordRules}
+use Rattle.packet_state.specs.States.{freshState, speeds, highestKey, keepsRecordRules}
 
 pub record Ruly (end : ℕ) (st : State) : Type 0 where
   pub place : st .position ≤ end
@@ -25,3 +25,8 @@ ruly-of end st e =
 pub of-ruly : (end : ℕ) (st : State) → Ruly end st → keepsRecordRules end st ≡ true
 unfolding keepsRecordRules
 of-ruly end st r = rw (le-leb _ _ (r .place), r .speed, le-leb _ _ (r .key))
+
+-- 02, A2: a fresh record's speed is one of the five
+pub fresh-speed : isIn (freshState .speed) speeds ≡ true
+unfolding isIn
+fresh-speed = refl

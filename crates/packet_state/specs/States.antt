@@ -30,9 +30,9 @@ withSense st x = record { position = st .position; loaded = st .loaded; attentio
 
 -- ---- the records that 01 names
 
--- "Fresh: P 0, loaded, attention reset, speed 0, sense zero."
+-- "Fresh: P 0, loaded, attention reset, speed 0, sense zero."; 02, A2: "The fresh record's speed becomes 250 instead of 0."
 abbrev pub freshState : State
-freshState = record { position = 0; loaded = true; attention = Reset; speed = 0; sense = noSense }
+freshState = record { position = 0; loaded = true; attention = Reset; speed = 250; sense = noSense }
 
 -- "Changing the cartridge (never refused) sets only P 0, loaded, attention medium changed, sense zero."
 abbrev pub changedState : State → State

@@ -101,7 +101,7 @@ pub fn with_sense(state: State, sense: Sense) -> State
 
 // ---- the records that 01 names
 
-// 01: "Fresh: P 0, loaded, attention reset, speed 0, sense zero."
+// 01: "Fresh: P 0, loaded, attention reset, speed 0, sense zero."; 02, A2: "The fresh record's speed becomes 250 instead of 0."
 pub fn fresh_state() -> State
     ensures { λ r. ⌜ r ≡ freshState ⌝ }
 {
@@ -109,7 +109,7 @@ pub fn fresh_state() -> State
         position: 0,
         loaded: true,
         attention: Attention::Reset,
-        speed: 0,
+        speed: 250,
         sense: no_sense(),
     }
 }

@@ -27,7 +27,7 @@ pub use floppy_bench::FloppyBench;
 pub use guarded::Guarded;
 pub use image_bench::{ImageBench, PacketSeen};
 pub use images::Shape;
-pub use origin::{Difference, Origin, hex};
+pub use origin::{Difference, Origin, agree, hex};
 pub use packet_bench::PacketBench;
 pub use pulse_bench::{PulseBench, PulseCall, PulseSeen};
 pub use random::Random;

@@ -67,6 +67,11 @@ impl fmt::Display for Difference {
     }
 }
 
+/// What a call gave where engine and model agree; else the difference is told.
+pub fn agree<T>(compared: Result<T, Box<Difference>>) -> T {
+    compared.unwrap_or_else(|difference| panic!("{difference}"))
+}
+
 /// Bytes in hex digits; a byte that is repeated often is written once with its count.
 pub fn hex(bytes: &[u8]) -> String {
     let mut text = String::new();

@@ -18,7 +18,7 @@ impl PacketBench {
     pub fn fresh(&mut self) -> Result<(), Box<Difference>> {
         self.start_call();
         raw::fresh(self.engine.record.array_mut());
-        model::packet::fresh(self.model.record.array_mut());
+        model::packet::fresh_with(self.bug, self.model.record.array_mut());
         self.compare("fresh", &[])
     }
 

@@ -3,18 +3,12 @@
 
 use compare::bytes::{long_at, put_long, put_word};
 use compare::floppy_sessions::{FAR_ABOVE, Factors, put_factors};
-use compare::{Difference, FloppyBench, Random, Shape, say};
+use compare::{Difference, FloppyBench, Random, Shape, agree, say};
 use model::Bug;
 use model::packet::Ending;
 use tapecard::bytes::{length, opcode, page};
 
 type Outcome = Result<(), Box<Difference>>;
-
-fn agree(outcome: Outcome) {
-    if let Err(difference) = outcome {
-        panic!("{difference}");
-    }
-}
 
 /// An image with U = C.
 fn full(size: u16, capacity: u32) -> Shape {

@@ -2,7 +2,7 @@
 
 use compare::bytes::{put_long, put_word};
 use compare::packet_sessions::put_count;
-use compare::{Difference, PacketBench, Random, Shape, say};
+use compare::{Difference, PacketBench, Random, Shape, agree, say};
 use model::Bug;
 use model::packet::Ending;
 use tapecard::bytes::{opcode, page};
@@ -10,12 +10,6 @@ use tapecard::bytes::{opcode, page};
 type Outcome = Result<(), Box<Difference>>;
 
 const TOUCHED: [u8; 12] = [0x5C; 12];
-
-fn agree(outcome: Outcome) {
-    if let Err(difference) = outcome {
-        panic!("{difference}");
-    }
-}
 
 fn shape(size: u16, capacity: u32, recorded: u32) -> Shape {
     Shape {

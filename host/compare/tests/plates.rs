@@ -5,9 +5,9 @@ use std::collections::VecDeque;
 use compare::bytes::{long_at, put_long, word_at};
 use compare::packet_sessions::put_count;
 use compare::pulse_sessions;
-use compare::{FloppyBench, ImageBench, PacketBench, PulseBench, PulseCall, Random, Shape};
+use compare::{FloppyBench, ImageBench, PacketBench, PulseBench, PulseCall, Random, Shape, agree};
 use model::Bug;
-use tapecard::bytes::opcode;
+use tapecard::bytes::{opcode, page};
 
 /// "Image C 4, B 512, W 0, kinds 1 2 1, U 3, attention cleared".
 fn packet_bench(position: u32, warning: u16) -> PacketBench {
@@ -40,9 +40,7 @@ fn send<const RECORD: usize>(bench: &mut ImageBench<RECORD>, opcode: u8, byte_1:
 }
 
 fn send_packet<const RECORD: usize>(bench: &mut ImageBench<RECORD>, packet: &[u8]) {
-    if let Err(difference) = bench.send(packet, &[0x55; 1024]) {
-        panic!("{difference}");
-    }
+    agree(bench.send(packet, &[0x55; 1024]));
 }
 
 fn sense_bytes<const RECORD: usize>(bench: &mut ImageBench<RECORD>) -> Vec<u8> {
@@ -171,6 +169,7 @@ fn floppy_bench(position: u8) -> FloppyBench {
     let mut record = [0; 32];
     record[3] = position;
     record[4] = 1;
+    record[7] = 250;
     record[16..24].copy_from_slice(&[0, 0, 1, 0, 0, 4, 0, 1]);
     let mut bench = FloppyBench::new(Bug::None, 0);
     bench.begin(&record, &image);
@@ -185,9 +184,7 @@ fn send_list(bench: &mut FloppyBench, parameters: [u8; 5]) {
     ];
     list[17..22].copy_from_slice(&parameters);
     let packet = [opcode::MODE_SELECT, 0, 0, 0, 28, 0, 0, 0, 0, 0, 0, 0];
-    if let Err(difference) = bench.send(&packet, &list) {
-        panic!("{difference}");
-    }
+    agree(bench.send(&packet, &list));
 }
 
 #[test]
@@ -241,6 +238,61 @@ fn a_floppy_list_and_a_load() {
     assert_eq!(position(&bench), 0);
 }
 
+/// Bytes 14-15 of page 2Ah, after the attention that is pending.
+fn speed_told<const RECORD: usize>(bench: &mut ImageBench<RECORD>) -> [u8; 2] {
+    send(bench, opcode::TEST_UNIT_READY, 0, 0);
+    assert_eq!(status(bench), 2);
+    send(bench, opcode::MODE_SENSE, 0, 0x2A_0020);
+    assert_eq!(status(bench), 0);
+    [bench.data()[26], bench.data()[27]]
+}
+
+fn select_speed<const RECORD: usize>(bench: &mut ImageBench<RECORD>, speed: u8) {
+    let mut list = [0; 32];
+    list[12] = page::CODE;
+    list[13] = page::LENGTH;
+    list[27] = speed;
+    let packet = [opcode::MODE_SELECT, 0, 0, 0, 32, 0, 0, 0, 0, 0, 0, 0];
+    agree(bench.send(&packet, &list));
+    assert_eq!(status(bench), 0);
+}
+
+/// 02, A2: "The fresh record's speed becomes 250 instead of 0. Callers that relied on 0 set it themselves by 15h, and MODE SENSE
+/// bytes 14-15 of a fresh drive follow."
+fn starts_at_250<const RECORD: usize>(
+    mut bench: ImageBench<RECORD>,
+    fresh: fn(&mut ImageBench<RECORD>),
+    change: fn(&mut ImageBench<RECORD>),
+) {
+    fresh(&mut bench);
+    assert_eq!(speed_told(&mut bench), [0x00, 0xFA]);
+    change(&mut bench);
+    assert_eq!(speed_told(&mut bench), [0x00, 0xFA]);
+    select_speed(&mut bench, 0);
+    change(&mut bench);
+    assert_eq!(speed_told(&mut bench), [0x00, 0x00]);
+    fresh(&mut bench);
+    assert_eq!(speed_told(&mut bench), [0x00, 0xFA]);
+}
+
+#[test]
+fn a_fresh_drive_starts_at_250() {
+    starts_at_250(
+        packet_bench(3, 0),
+        |bench| agree(bench.fresh()),
+        |bench| agree(bench.change()),
+    );
+}
+
+#[test]
+fn a_fresh_floppy_device_starts_at_250() {
+    starts_at_250(
+        floppy_bench(3),
+        |bench| assert_eq!(agree(bench.fresh()), 0),
+        |bench| assert_eq!(agree(bench.change()), 0),
+    );
+}
+
 fn pulse_bench() -> PulseBench {
     let mut bench = PulseBench::new(Bug::None, 0);
     make(&mut bench, PulseCall::PowerOn(0, 0));
@@ -248,9 +300,7 @@ fn pulse_bench() -> PulseBench {
 }
 
 fn make(bench: &mut PulseBench, call: PulseCall) -> u8 {
-    if let Err(difference) = bench.make(call) {
-        panic!("{difference}");
-    }
+    agree(bench.make(call));
     bench.answer()[1]
 }
 

@@ -1,16 +1,9 @@
 //! The pulse drive at its borders: a small world in full, every byte of the record, every cartridge description.
 
 use compare::bytes::put_word;
-use compare::{Difference, PulseBench, PulseCall, Random, pulse_sessions, say};
+use compare::{PulseBench, PulseCall, Random, agree, pulse_sessions, say};
 use model::Bug;
 use model::pulse::Branch;
-
-fn agree<T>(outcome: Result<T, Box<Difference>>) -> T {
-    match outcome {
-        Ok(value) => value,
-        Err(difference) => panic!("{difference}"),
-    }
-}
 
 /// Every call that could matter in a small world.
 fn calls() -> Vec<PulseCall> {

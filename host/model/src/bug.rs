@@ -6,6 +6,12 @@ pub enum Bug {
     /// The drive as the requirements have it.
     None,
 
+    // Both packet devices.
+    /// A fresh record has speed 0.
+    FreshIsAutomatic,
+    /// Changing the cartridge gives the speed of a fresh record.
+    ChangeResetsSpeed,
+
     // Packet drive.
     /// A READ that stops at a filemark counts it as a block moved.
     ResidueCountsFilemark,
@@ -139,7 +145,9 @@ pub enum Bug {
 
 impl Bug {
     /// Mistakes in the packet drive.
-    pub const PACKET: [Bug; 20] = [
+    pub const PACKET: [Bug; 22] = [
+        Bug::FreshIsAutomatic,
+        Bug::ChangeResetsSpeed,
         Bug::ResidueCountsFilemark,
         Bug::WriteKeepsRecorded,
         Bug::AttentionAfterOpcode,
@@ -163,7 +171,9 @@ impl Bug {
     ];
 
     /// Mistakes in the floppy tape device.
-    pub const FLOPPY: [Bug; 22] = [
+    pub const FLOPPY: [Bug; 24] = [
+        Bug::FreshIsAutomatic,
+        Bug::ChangeResetsSpeed,
         Bug::BlockInErrorInResidue,
         Bug::KindTwoIsFilemark,
         Bug::FloppyWriteSetsRecorded,

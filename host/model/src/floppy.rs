@@ -44,7 +44,7 @@ pub fn fresh_with(bug: Bug, record: &mut [u8; 32], image: &[u8]) -> [u8; 16] {
     let Some(header) = filled_header(bug, image) else {
         return Reply::refused(2).encoded();
     };
-    *record = encoded(&State::fresh(), &Parameters::reset_for(&header));
+    *record = encoded(&State::fresh(bug), &Parameters::reset_for(&header));
     Reply::good().encoded()
 }
 
@@ -58,7 +58,7 @@ pub fn change_with(bug: Bug, record: &mut [u8; 32], image: &[u8]) -> [u8; 16] {
         return Reply::refused(2).encoded();
     };
     let (mut state, mut parameters) = decoded(bug, record);
-    state.change_cartridge();
+    state.change_cartridge(bug);
     if bug != Bug::ChangeKeepsParameters {
         parameters = Parameters::reset_for(&header);
     }

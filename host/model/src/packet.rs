@@ -38,7 +38,11 @@ const MODE_WHOLE_LENGTH: usize = MODE_HEADER_LENGTH + CAPABILITIES_LENGTH;
 
 /// A fresh record.
 pub fn fresh(record: &mut [u8; 16]) {
-    *record = State::fresh().encoded();
+    fresh_with(Bug::None, record);
+}
+
+pub fn fresh_with(bug: Bug, record: &mut [u8; 16]) {
+    *record = State::fresh(bug).encoded();
 }
 
 /// Another cartridge is put in.
@@ -50,7 +54,7 @@ pub fn change_with(bug: Bug, record: &mut [u8; 16]) {
     let mut state = State::decoded(record);
     let keeps_reset = bug == Bug::ChangeKeepsReset && state.attention == Attention::Reset;
     // "Changing the cartridge (never refused)".
-    state.change_cartridge();
+    state.change_cartridge(bug);
     if keeps_reset {
         state.attention = Attention::Reset;
     }

@@ -1,6 +1,10 @@
 //! What the record of every packet device holds: its first 16 bytes.
 
+use crate::Bug;
 use crate::bytes::{long_at, put_long, put_word, word_at};
+
+/// "The fresh record's speed becomes 250 instead of 0." (02, A2)
+const FRESH_SPEED: u16 = 250;
 
 /// "attention (none, medium changed, reset)".
 #[derive(Clone, Copy, PartialEq, Eq)]
@@ -67,19 +71,23 @@ pub struct State {
 }
 
 impl State {
-    // "Fresh: P 0, loaded, attention reset, speed 0, sense zero."
-    pub fn fresh() -> State {
+    // "Fresh: P 0, loaded, attention reset, .. sense zero", the speed as A2 has it.
+    pub fn fresh(bug: Bug) -> State {
+        let automatic = bug == Bug::FreshIsAutomatic;
         State {
             position: 0,
             loaded: true,
             attention: Attention::Reset,
-            speed: 0,
+            speed: if automatic { 0 } else { FRESH_SPEED },
             sense: Sense::ZERO,
         }
     }
 
     // "Changing the cartridge .. sets only P 0, loaded, attention medium changed, sense zero."
-    pub fn change_cartridge(&mut self) {
+    pub fn change_cartridge(&mut self, bug: Bug) {
+        if bug == Bug::ChangeResetsSpeed {
+            self.speed = FRESH_SPEED;
+        }
         self.position = 0;
         self.loaded = true;
         self.attention = Attention::MediumChanged;

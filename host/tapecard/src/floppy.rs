@@ -33,8 +33,8 @@ pub struct Tape {
 }
 
 impl Record {
-    /// The record of a drive just switched on with this image in it: position 0, loaded, attention reset, the tape as long as the
-    /// image.
+    /// The record of a drive just switched on with this image in it: position 0, loaded, attention reset, speed 250, the tape as
+    /// long as the image.
     pub fn fresh(image: &[u8]) -> Result<Record, Refusal> {
         let (mut bytes, mut answer) = ([0; 32], [0; 16]);
         ffi::floppy_fresh(&mut bytes, image, &mut answer);

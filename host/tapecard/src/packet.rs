@@ -47,7 +47,7 @@ pub struct Answer {
 }
 
 impl Record {
-    /// The record of a drive just switched on: position 0, loaded, attention reset.
+    /// The record of a drive just switched on: position 0, loaded, attention reset, speed 250.
     pub fn fresh() -> Record {
         let mut bytes = [0; 16];
         ffi::fresh(&mut bytes);
@@ -76,6 +76,7 @@ impl Record {
         }
     }
 
+    /// 0 (automatic), 62, 125, 250 or 500.
     pub fn speed(&self) -> u16 {
         u16::from_be_bytes([self.0[6], self.0[7]])
     }

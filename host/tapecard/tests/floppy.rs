@@ -51,7 +51,7 @@ fn a_fresh_record_has_a_tape_as_long_as_the_image() {
     let record = Record::fresh(&image()).expect("a whole image");
     assert_eq!((record.position(), record.loaded()), (0, true));
     assert_eq!(record.attention(), Attention::Reset);
-    assert_eq!((record.speed(), record.sense()), (0, Sense::default()));
+    assert_eq!((record.speed(), record.sense()), (250, Sense::default()));
     let tape = Tape {
         bseg: 1,
         segtrk: 4,
@@ -78,12 +78,12 @@ fn an_image_that_is_not_full_is_refused() {
 #[test]
 fn a_changed_cartridge_sets_the_tape_back() {
     let mut record = ready(&mut image());
-    record.0[7] = 250;
+    record.0[7] = 125;
     record.0[16] = 44;
     record.0[18] = 2;
     assert_eq!(record.change(&image()), Ok(()));
     assert_eq!(record.attention(), Attention::MediumChanged);
-    assert_eq!(record.speed(), 250);
+    assert_eq!(record.speed(), 125);
     let fresh = Record::fresh(&image()).expect("a whole image");
     assert_eq!(record.tape(), fresh.tape());
 }

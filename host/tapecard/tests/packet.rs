@@ -44,17 +44,17 @@ fn a_fresh_record() {
     assert_eq!(record.position(), 0);
     assert!(record.loaded());
     assert_eq!(record.attention(), Attention::Reset);
-    assert_eq!(record.speed(), 0);
+    assert_eq!(record.speed(), 250);
     assert_eq!(record.sense(), Sense::default());
 }
 
 #[test]
 fn a_changed_cartridge() {
     let mut record = Record::fresh();
-    record.0[7] = 250;
+    record.0[7] = 125;
     record.change();
     assert_eq!(record.attention(), Attention::MediumChanged);
-    assert_eq!(record.speed(), 250);
+    assert_eq!(record.speed(), 125);
 }
 
 #[test]

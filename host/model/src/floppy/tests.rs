@@ -138,10 +138,27 @@ fn a_fresh_record() {
     let mut record = [0xEE; 32];
     assert_eq!(fresh(&mut record, &good_image()), [0; 16]);
     let expected = [
-        0, 0, 0, 0, 1, 2, 0, 0, 0, 0, 0, 0, 0, 0, 0, 0, 0, 0, 1, 0, 0, 4, 0, 1, 0, 0, 0, 0, 0, 0,
+        0, 0, 0, 0, 1, 2, 0, 250, 0, 0, 0, 0, 0, 0, 0, 0, 0, 0, 1, 0, 0, 4, 0, 1, 0, 0, 0, 0, 0, 0,
         0, 0,
     ];
     assert_eq!(record, expected);
+}
+
+/// 02, A2: "Callers that relied on 0 set it themselves by 15h, and MODE SENSE bytes 14-15 of a fresh drive follow."
+#[test]
+fn a_fresh_device_tells_250_until_a_list_sets_0() {
+    let mut bench = Bench::at(0);
+    assert_eq!(fresh(&mut bench.record, &bench.image), [0; 16]);
+    assert_eq!(bench.send(&short(0x00, 0)).status, 2);
+    bench.send(&mode_sense(0x2A));
+    assert_eq!(bench.data[26..28], [0x00, 0xFA]);
+    bench.data[26..28].fill(0);
+    assert_eq!(bench.send(&short(0x15, 32)), told(0, 0, 0, 32));
+    assert_eq!(change(&mut bench.record, &bench.image), [0; 16]);
+    assert_eq!(bench.send(&short(0x00, 0)).status, 2);
+    bench.data[26..28].fill(0x55);
+    bench.send(&mode_sense(0x2A));
+    assert_eq!(bench.data[26..28], [0x00, 0x00]);
 }
 
 #[test]
@@ -322,7 +339,7 @@ fn plate_the_capabilities_page() {
     assert_eq!(bench.send(&mode_sense(0x2A)), told(0, 0, 0, 32));
     let page = [
         31, 0x42, 0, 0, 0, 0, 0, 0, 0, 0, 0, 0, 0x2A, 0x12, 0, 0, 2, 0, 8, 0, 1, 0xF4, 0, 0, 0, 1,
-        0, 0, 0, 0x80, 0, 0,
+        0, 250, 0, 0x80, 0, 0,
     ];
     assert_eq!(bench.data[..32], page);
     bench.select([3, 0, 1, 0, 1]);
@@ -490,7 +507,7 @@ fn lists_of_every_length() {
             28 => assert_eq!(bench.triple(), [5, 0x26, 0]),
             _ => assert_eq!(bench.triple(), [5, 0x1A, 0]),
         }
-        let speed = if length == 32 { 125 } else { 0 };
+        let speed = if length == 32 { 125 } else { 250 };
         assert_eq!((bench.record[7], bench.position()), (speed, 3));
     }
 }
@@ -533,7 +550,7 @@ fn an_accepted_packet_writes_the_record_in_its_canonical_form() {
     bench.record[27..].fill(0xFF);
     assert_eq!(bench.send(&[0; 12]), told(0, 0, 0, 0));
     let expected = [
-        0, 0, 0, 1, 1, 0, 0, 0, 0, 0, 0, 0, 0, 0, 0, 0, 0, 0, 1, 0xE0, 0, 4, 0, 1, 0, 0, 0, 0, 0,
+        0, 0, 0, 1, 1, 0, 0, 250, 0, 0, 0, 0, 0, 0, 0, 0, 0, 0, 1, 0xE0, 0, 4, 0, 1, 0, 0, 0, 0, 0,
         0, 0, 0,
     ];
     assert_eq!(bench.record, expected);

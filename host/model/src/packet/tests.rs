@@ -266,6 +266,32 @@ fn attention_comes_before_everything_but_sense_and_inquiry() {
 }
 
 #[test]
+fn a_fresh_record_has_speed_250() {
+    let mut record = [0xEE; 16];
+    fresh(&mut record);
+    assert_eq!(record, [0, 0, 0, 0, 1, 2, 0, 250, 0, 0, 0, 0, 0, 0, 0, 0]);
+}
+
+/// 02, A2: "Callers that relied on 0 set it themselves by 15h, and MODE SENSE bytes 14-15 of a fresh drive follow."
+#[test]
+fn a_fresh_drive_tells_250_until_a_list_sets_0() {
+    let mut bench = Bench::at(0);
+    fresh(&mut bench.record);
+    assert_eq!(bench.send(&short(TEST_UNIT_READY, 0)).status, 2);
+    let mut sense = short(MODE_SENSE, 32);
+    sense[2] = 0x2A;
+    bench.send(&sense);
+    assert_eq!(bench.data[26..28], [0x00, 0xFA]);
+    bench.data[26..28].fill(0);
+    assert_eq!(bench.send(&short(MODE_SELECT, 32)).status, 0);
+    change(&mut bench.record);
+    assert_eq!(bench.send(&short(TEST_UNIT_READY, 0)).status, 2);
+    bench.data[26..28].fill(0x55);
+    bench.send(&sense);
+    assert_eq!(bench.data[26..28], [0x00, 0x00]);
+}
+
+#[test]
 fn changing_the_cartridge_keeps_only_the_speed() {
     let mut record = [0xFF; 16];
     change(&mut record);
@@ -371,7 +397,7 @@ fn mode_pages() {
     assert_eq!(bench.send(&sense).bytes, 32);
     assert_eq!(bench.data[0], 31);
     let page = [
-        0x2A, 0x12, 0, 0, 0, 0, 8, 0, 1, 0xF4, 0, 0, 0, 64, 0, 0, 0, 128, 0, 0,
+        0x2A, 0x12, 0, 0, 0, 0, 8, 0, 1, 0xF4, 0, 0, 0, 64, 0, 250, 0, 128, 0, 0,
     ];
     assert_eq!(bench.data[12..32], page);
     sense[2] = 1;
@@ -472,6 +498,6 @@ fn an_accepted_packet_writes_the_record_in_its_canonical_form() {
     bench.send(&[0; 12]);
     assert_eq!(
         bench.record,
-        [0, 0, 0, 1, 1, 0, 0, 0, 0, 0, 0, 0, 0, 0, 0, 0]
+        [0, 0, 0, 1, 1, 0, 0, 250, 0, 0, 0, 0, 0, 0, 0, 0]
     );
 }
