@@ -5,6 +5,7 @@ pub mod PlateTable
 pub mod ReadingBack
 pub mod Refusals
 pub mod Selecting
+pub mod Speeds
 pub mod Starting
 pub mod Storing
 pub mod Telling

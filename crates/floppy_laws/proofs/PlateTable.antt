@@ -1,4 +1,4 @@
--- The plates of 02, A1, computed.
+-- The plates of 02, A1 and A2, computed.
 -- Assumes nothing.
 use native.Mathlib.Omega.{arith}
 use mathlib.Core.Path.{refl}
@@ -22,8 +22,9 @@ use Rattle.floppy_parts.specs.Requests.{floppyRequest}
 use Rattle.floppy_parts.specs.Rules.{keepsFloppyRules}
 use Rattle.floppy_parts.specs.Tape.{product, resetTape, listedTape}
 use Rattle.floppy_parts.specs.Settings.{goodTapeList, selectedTape, loadedTape, tapeAfter}
+use Rattle.floppy.specs.Packet.{mounted}
 use Rattle.floppy.specs.Work.{readEnding, readEnds, readWork, writeEnding, writeEnds, writeWork, placeUnder, tapeWork, selectWork, workOf}
-use Rattle.floppy_laws.specs.Demands.{PlatesPrint, WorkBegins}
+use Rattle.floppy_laws.specs.Demands.{PlatesPrint, SpeedPlates, WorkBegins}
 
 pub plates-print : PlatesPrint
 unfolding answersTo decided carriedOut verdictBy foundFirst askedBy floppyRequest requestUnder keepsRecordRules keepsFloppyRules floppyCommand
@@ -31,6 +32,11 @@ unfolding answersTo decided carriedOut verdictBy foundFirst askedBy floppyReques
     writeEnding writeEnds writeWork firstOf replyEnds goodList speedWork loadWork product resetTape listedTape goodTapeList placeUnder tapeWork
     selectWork workOf selectedTape loadedTape tapeAfter
 plates-print = refl
+
+pub speed-plates : SpeedPlates
+unfolding answersTo decided carriedOut verdictBy foundFirst askedBy floppyRequest requestUnder keepsRecordRules keepsFloppyRules floppyCommand
+    isFull keepsHeaderRules fieldsOf allHold isIn ends firstOf replyEnds goodList speedWork product resetTape selectWork workOf selectedTape tapeAfter mounted
+speed-plates = record { starts = refl; zero-set = refl; start-kept = refl; zero-kept = refl }
 
 pub work-begins : WorkBegins
 unfolding answersTo decided carriedOut verdictBy foundFirst askedBy floppyRequest requestUnder keepsRecordRules keepsFloppyRules floppyCommand

@@ -16,9 +16,9 @@ use Rattle.packet_state.specs.States.{speeds, withSense}
 use Rattle.packet_state.specs.Senses.{invalidField, wrongList}
 use Rattle.packet_parts.specs.Answers.{goodStatus}
 use Rattle.packet_parts.specs.Requests.{loadBit}
-use Rattle.packet_laws.specs.Plates.{sent}
+use Rattle.packet_laws.specs.Plates.{sent, SpeedPlates as SpeedPlatesOf}
 use Rattle.packet_laws.specs.Promises.{CutPacket as CutPacketOf, RefusedKeeps as RefusedKeepsOf, NumberExactly as NumberExactlyOf}
-use Rattle.packet_laws.specs.Promises.{BeginsExactly as BeginsExactlyOf}
+use Rattle.packet_laws.specs.Promises.{BeginsExactly as BeginsExactlyOf, SpeedFollows as SpeedFollowsOf}
 use Rattle.packet_laws.specs.Words.{numberOf, statusOf, blocksOf, bytesOf, residueOf}
 use Rattle.floppy_parts.specs.declared.tape.Floppy.{Floppy}
 use Rattle.floppy_parts.specs.declared.tape.FloppyOutcome.{FloppyOutcome}
@@ -49,6 +49,10 @@ NumberExactly = NumberExactlyOf floppyDevice
 -- A packet begins exactly when its number is 0 and none of the endings before the work holds.
 abbrev pub BeginsExactly : Type 0
 BeginsExactly = BeginsExactlyOf floppyDevice
+
+-- 02, A2: 1Ah gives the record's speed, a list of 32 bytes that is taken sets it, and no other packet changes it.
+abbrev pub SpeedFollows : Type 0
+SpeedFollows = SpeedFollowsOf floppyDevice
 
 -- What an accepted packet leaves is again accepted: U is still C, the product within C, and P within the product.
 abbrev pub StaysGood : Type 0
@@ -190,6 +194,10 @@ pub record Settled : Type 0 where
 -- Plates worked out by hand from A1's words, proved together as one table.
 abbrev pub PlatesPrint : Type 0
 PlatesPrint = allAgree plates ≡ true
+
+-- 02, A2: what a fresh device tells of its speed, and one whose host wants 0.
+abbrev pub SpeedPlates : Type 0
+SpeedPlates = SpeedPlatesOf floppyDevice (image 0) (freshFloppy (image 0) (placed 3) .state) (λ f. changedFloppy (image 0) f .state)
 
 -- What is asked above can be so: a READ and a WRITE that begin and move a block, a list of 28 bytes that is taken and one that is not.
 pub record WorkBegins : Type 0 where

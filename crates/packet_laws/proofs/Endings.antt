@@ -21,3 +21,7 @@ pub ends-is : (st : State) (e : Ending) (blocks bytes : ℕ) → ends st e block
 unfolding ends
 ends-is st Good blocks bytes = refl
 ends-is st (Check x) blocks bytes = refl
+
+-- an ending keeps the speed of the record that it is told
+pub ends-speed : (st : State) (e : Ending) (blocks bytes : ℕ) → ends st e blocks bytes .state .speed ≡ st .speed
+ends-speed st e blocks bytes = rw ends-is

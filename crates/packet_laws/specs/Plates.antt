@@ -3,12 +3,15 @@
 use Prim.Native.Nat.{ℕ}
 use mathlib.Core.Bool.{Bool, true, false, _&&_}
 use mathlib.Core.List.{List, [], _∷_, _++_}
+use mathlib.Core.Path.{_≡_}
 use lib.ListN.{replicate}
 use Rattle.numbers.specs.Choice.{_≡ᵇ_}
 use Rattle.numbers.specs.Counts.{countBytes}
+use Rattle.numbers.specs.Over.{part}
 use Rattle.packet_state.specs.declared.state.Attention.the-variants.{Nothing}
 use Rattle.packet_state.specs.declared.state.State.{State}
 use Rattle.packet_state.specs.States.{atPlace, withAttention, freshState}
+use Rattle.packet_parts.specs.Shell.{Device, answersTo}
 
 -- 01: "Image C 4, B 512", with this W, this U and these four kinds
 abbrev pub plateImage : ℕ → ℕ → List ℕ → List ℕ
@@ -40,3 +43,32 @@ same [] [] = true
 same [] (y ∷ ys) = false
 same (x ∷ xs) [] = false
 same (x ∷ xs) (y ∷ ys) = (x ≡ᵇ y) && same xs ys
+
+-- ---- 02, A2, worked out by hand: what a drive tells of its speed
+
+-- 15h's list of 32 bytes: 2Ah 12h and this speed, 0 for the rest
+abbrev pub speedList : ℕ → List ℕ
+speedList speed = replicate 12 0 ++ (0x2a ∷ 0x12 ∷ (replicate 12 0 ++ (countBytes 2 speed ++ replicate 4 0)))
+
+module _ {R : Type 0} (d : Device R) (s : List ℕ) where
+  -- bytes 14-15 of page 2Ah, which 1Ah gives after a header of 12 bytes
+  abbrev pub speedTold : R → List ℕ
+  speedTold st = part (answersTo d s st (sent 0x1a 0 0x2a 0 32 0 0) (replicate 32 9) .buf) 26 2
+
+  -- the record after TEST UNIT READY, to which a pending attention is told
+  abbrev pub attended : R → R
+  attended st = answersTo d s st (sent 0 0 0 0 0 0 0) [] .state
+
+  -- the record after 15h with this speed
+  abbrev pub setTo : ℕ → R → R
+  setTo speed st = answersTo d s st (sent 0x15 0 0 0 32 0 0) (speedList speed) .state
+
+  -- of a drive whose fresh record and cartridge change are these
+  pub record SpeedPlates (fresh : R) (changed : R → R) : Type 0 where
+    -- "The fresh record's speed becomes 250 instead of 0 .. and MODE SENSE bytes 14-15 of a fresh drive follow": 00 FA
+    pub starts : speedTold (attended fresh) ≡ 0x00 ∷ 0xfa ∷ []
+    -- "Callers that relied on 0 set it themselves by 15h"
+    pub zero-set : speedTold (setTo 0 (attended fresh)) ≡ 0x00 ∷ 0x00 ∷ []
+    -- 01: "Changing the cartridge .. sets only P 0, loaded, attention medium changed, sense zero": the speed stays, either one
+    pub start-kept : speedTold (attended (changed (attended fresh))) ≡ 0x00 ∷ 0xfa ∷ []
+    pub zero-kept : speedTold (attended (changed (setTo 0 (attended fresh)))) ≡ 0x00 ∷ 0x00 ∷ []

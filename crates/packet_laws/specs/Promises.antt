@@ -1,14 +1,17 @@
--- What every packet device promises, one named type each; proofs/ proves them of any device whose work refuses nothing.
+-- What every packet device promises, one named type each; proofs/ proves them of any device whose work refuses nothing, and keeps the speed.
 -- Assumes nothing.
 use Prim.Native.Nat.{ℕ}
 use mathlib.Core.List.{List}
 use mathlib.Core.Logic.{_↔_}
 use mathlib.Core.Path.{_≡_}
 use lib.ListN.{length}
+use Rattle.numbers.specs.Counts.{countBytes}
+use Rattle.numbers.specs.Over.{part}
 use Rattle.packet_parts.specs.Answers.{notTwelveBytes}
 use Rattle.packet_parts.specs.Requests.{packetLength}
 use Rattle.packet_parts.specs.Shell.{Device, answersTo}
-use Rattle.packet_laws.specs.Words.{numberOf, Refusal, Due, Unended, Begins}
+use Rattle.packet_work.specs.Settings.{listSpeed}
+use Rattle.packet_laws.specs.Words.{numberOf, speedAt, Refusal, Due, Unended, Begins, TellsSpeed, SetsSpeed}
 
 module _ {R : Type 0} (d : Device R) where
   -- "1: packet is not 12 bytes", whatever the image, the record and the buffer; nothing changes.
@@ -32,3 +35,13 @@ module _ {R : Type 0} (d : Device R) where
   BeginsExactly =
       (s : List ℕ) (st : R) (packet buf : List ℕ)
       → Begins d s st packet buf ↔ ((numberOf (answersTo d s st packet buf) ≡ 0) × Unended d s st packet buf)
+
+  -- 02, A2: "Callers that relied on 0 set it themselves by 15h, and MODE SENSE bytes 14-15 .. follow": 1Ah gives the record's speed, a list of 32 bytes that
+  -- is taken sets it, and no other packet changes it.
+  pub record SpeedFollows : Type 0 where
+    pub told : (s : List ℕ) (st : R) (packet buf : List ℕ) → TellsSpeed d s st packet buf
+        → part (answersTo d s st packet buf .buf) speedAt 2 ≡ countBytes 2 (d .shared st .speed)
+    pub set : (s : List ℕ) (st : R) (packet list : List ℕ) → SetsSpeed d s st packet list
+        → d .shared (answersTo d s st packet list .state) .speed ≡ listSpeed list
+    pub kept : (s : List ℕ) (st : R) (packet buf : List ℕ) → (SetsSpeed d s st packet buf → ⊥)
+        → d .shared (answersTo d s st packet buf .state) .speed ≡ d .shared st .speed

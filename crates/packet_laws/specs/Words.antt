@@ -1,6 +1,6 @@
 -- The words in which the promises of a packet device are stated.
 -- Assumes nothing.
-use Prim.Native.Nat.{ℕ, _≤_, _<_}
+use Prim.Native.Nat.{ℕ, _+_, _≤_, _<_}
 use mathlib.Core.Bool.{Bool, true, false}
 use mathlib.Core.List.{List}
 use mathlib.Core.Path.{_≡_}
@@ -12,8 +12,9 @@ use Rattle.opcodes.specs.declared.Command.the-variants.{Unknown, TestUnitReady,
 use Rattle.opcodes.specs.declared.Command.the-variants.{ModeSelect, ModeSense, LoadUnload, Locate, ReadPosition}
 use Rattle.packet_state.specs.declared.state.Sense.{Sense}
 use Rattle.packet_state.specs.declared.state.Verdict.the-variants.{Works}
-use Rattle.packet_parts.specs.Answers.{Left, notTwelveBytes, unrulyRecord, shortBuffer}
-use Rattle.packet_parts.specs.Requests.{packetLength}
+use Rattle.packet_parts.specs.Answers.{Left, goodStatus, notTwelveBytes, unrulyRecord, shortBuffer}
+use Rattle.packet_parts.specs.Replies.{devicePage, shortList, fullList}
+use Rattle.packet_parts.specs.Requests.{packetLength, pageCode}
 use Rattle.packet_parts.specs.Shell.{Device, foundBy, endsFirst, answersTo}
 
 -- ---- an answer's parts
@@ -33,6 +34,10 @@ bytesOf x = x .answer .bytes
 -- the information where the sense is valid, else 0
 abbrev pub residueOf : Sense → ℕ
 residueOf x = if x .valid then x .information else 0
+
+-- 1Ah: "14-15 speed", of the page that stands after the header
+abbrev pub speedAt : ℕ
+speedAt = shortList + 14
 
 -- the commands that give bytes: 03h, 08h, 12h, 1Ah, 34h
 abbrev pub gives : Command → Bool
@@ -89,6 +94,22 @@ module _ {R : Type 0} (d : Device R) (s : List ℕ) (st : R) (packet buf : List 
   pub record Begins : Type 0 where
     pub not-refused : numberOf (answersTo d s st packet buf) ≡ 0
     pub works : foundBy d (fieldsOf s) st (d .request packet) (length buf) ≡ Works
+
+  -- ---- the speed
+
+  -- 1Ah of page 2Ah that begins, and asks for the two bytes of the speed too
+  pub record TellsSpeed : Type 0 where
+    pub begins : Begins
+    pub mode-sense : d .request packet .command ≡ ModeSense
+    pub page : pageCode (d .request packet) ≡ devicePage
+    pub asked : speedAt + 2 ≤ d .request packet .length
+
+  -- 15h with a list of 32 bytes that begins and ends GOOD
+  pub record SetsSpeed : Type 0 where
+    pub begins : Begins
+    pub mode-select : d .request packet .command ≡ ModeSelect
+    pub whole : d .request packet .length ≡ fullList
+    pub good : statusOf (answersTo d s st packet buf) ≡ goodStatus
 
 -- the device's work refuses nothing: a packet that comes to it is given 0
 pub record Working {R : Type 0} (d : Device R) : Type 0 where

@@ -1,1 +1,1 @@
-// The theorems on any packet device: what is refused, and when a packet begins. All of it is in specs/ and proofs/.
+// The theorems on any packet device: what is refused, when a packet begins, how the speed is told and set. All of it is in specs/ and proofs/.

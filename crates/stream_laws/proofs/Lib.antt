@@ -6,6 +6,7 @@ pub mod PlateTable
 pub mod ReadingBack
 pub mod Refusals
 pub mod Settling
+pub mod Speeds
 pub mod Storing
 pub mod Telling
 pub mod Working

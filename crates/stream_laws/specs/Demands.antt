@@ -5,6 +5,7 @@ use mathlib.Core.Bool.{true}
 use mathlib.Core.List.{List}
 use mathlib.Core.Path.{_≡_}
 use lib.ListN.{replicate}
+use Rattle.numbers.specs.Member.{isIn}
 use Rattle.numbers.specs.Outcomes.{Settles}
 use Rattle.numbers.specs.Over.{part}
 use Rattle.image.specs.declared.elements.Kind.the-variants.{Filemark}
@@ -13,16 +14,16 @@ use Rattle.opcodes.specs.declared.Command.the-variants.{Read, Write, WriteFilem
 use Rattle.packet_state.specs.declared.state.Outcome.{Outcome}
 use Rattle.packet_state.specs.declared.state.State.{State}
 use Rattle.packet_state.specs.Senses.{unreadableBlock}
-use Rattle.packet_state.specs.States.{keepsRecordRules, atPlace, withSense}
+use Rattle.packet_state.specs.States.{freshState, changedState, speeds, keepsRecordRules, atPlace, withSense}
 use Rattle.packet_parts.specs.Answers.{Left}
-use Rattle.packet_laws.specs.Plates.{standing, sent}
+use Rattle.packet_laws.specs.Plates.{standing, sent, SpeedPlates as SpeedPlatesOf}
 use Rattle.packet_laws.specs.Promises.{CutPacket as CutPacketOf, RefusedKeeps as RefusedKeepsOf, NumberExactly as NumberExactlyOf}
-use Rattle.packet_laws.specs.Promises.{BeginsExactly as BeginsExactlyOf}
+use Rattle.packet_laws.specs.Promises.{BeginsExactly as BeginsExactlyOf, SpeedFollows as SpeedFollowsOf}
 use Rattle.packet_laws.specs.Words.{numberOf, blocksOf, bytesOf, residueOf}
 use Rattle.stream_parts.specs.Requests.{requestOf}
 use Rattle.stream.specs.Packet.{FreshPromise, ChangedPromise, PacketPromise, streamDevice, packetStep}
 use Rattle.stream_laws.specs.History.{Later}
-use Rattle.stream_laws.specs.Plates.{unreadableAtTwo, readTwo, allAgree, plates, BeginsAndMoves}
+use Rattle.stream_laws.specs.Plates.{image, unreadableAtTwo, readTwo, allAgree, plates, BeginsAndMoves}
 use Rattle.stream_laws.specs.Words.{BeginsWork, Moves, stores, IsRecorded, IsElement, EveryReadGives, Kept, AlikeBelowU}
 use Rattle.stream_laws.specs.Words.{ReadEnds, WriteEnds, passedBeside, GoodRead, BlocksGood, MarksGood, SameBelowU}
 
@@ -41,6 +42,10 @@ NumberExactly = NumberExactlyOf streamDevice
 -- A packet begins exactly when its number is 0 and none of 01's endings before the work holds.
 abbrev pub BeginsExactly : Type 0
 BeginsExactly = BeginsExactlyOf streamDevice
+
+-- 02, A2: 1Ah gives the record's speed, a list of 32 bytes that is taken sets it, and no other packet changes it.
+abbrev pub SpeedFollows : Type 0
+SpeedFollows = SpeedFollowsOf streamDevice
 
 -- "For every read or write that begins, blocks moved plus residue equal blocks asked."
 abbrev pub MovedPlusResidue : Type 0
@@ -112,6 +117,11 @@ pub record Settled : Type 0 where
   pub fresh : Settles FreshPromise
   pub changed : (st : State) → Settles (ChangedPromise st)
 
+-- 02, A2: "Refusals: none new": refusal 3 takes the fresh record over every cartridge, and the changed one where its speed is one of the five.
+pub record StartsGood : Type 0 where
+  pub fresh : (end : ℕ) → keepsRecordRules end freshState ≡ true
+  pub changed : (end : ℕ) (st : State) → isIn (st .speed) speeds ≡ true → keepsRecordRules end (changedState st) ≡ true
+
 -- What an accepted packet leaves is again accepted: the image keeps the header rules, with the same header but U, and the record keeps rule 3 for it.
 abbrev pub StaysGood : Type 0
 StaysGood =
@@ -179,6 +189,10 @@ ReadsBack =
 -- 01: "A small set is proved together as one table (*)"
 abbrev pub PlatesPrint : Type 0
 PlatesPrint = allAgree plates ≡ true
+
+-- 02, A2: what a fresh drive tells of its speed, and one whose host wants 0.
+abbrev pub SpeedPlates : Type 0
+SpeedPlates = SpeedPlatesOf streamDevice (image 0) freshState changedState
 
 -- What is asked above can be so: a READ, a WRITE and a WRITE FILEMARK that begin and move an element, a READ that meets an unreadable block.
 pub record WorkBegins : Type 0 where
