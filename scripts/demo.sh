@@ -1,6 +1,6 @@
 #!/usr/bin/env bash
-# A walk through the drive card in under a minute: glyphs on a tape and back, a READ that stops, a cut packet, a glyph redrawn
-# in place, a lost drive.
+# A walk through the drive card in under a minute: glyphs on a tape and back, a READ that stops, a speed set, a cut packet, a glyph
+# redrawn in place, a lost drive.
 # Run by `make demo`, after the archive and the command are built. TAPECARD may name another build of the command.
 set -euo pipefail
 cd "$(dirname "$0")/.."
@@ -62,6 +62,15 @@ echo "both files are the same, byte for byte"
 
 heading "A READ of 40 blocks stops at the first script's filemark and says how many are missing"
 run_to_check_condition packet scripts.img --out blocks.bin 08 01 00 00 28 00 00 00 00 00 00 00
+
+heading "A drive just switched on has speed 250, and a workstation that wants the automatic one, 0, sets it"
+{ head -c 12 /dev/zero; printf '\x2A\x12'; head -c 18 /dev/zero; } >automatic.list # page 2Ah after its header, speed 0
+printf '\n$ tapecard packet scripts.img --data automatic.list\n'
+tapecard packet scripts.img --data automatic.list <<'LINES'
+1A 00 2A 00 20 00 00 00 00 00 00 00  # MODE SENSE
+15 00 00 00 20 00 00 00 00 00 00 00  # MODE SELECT
+1A 00 2A 00 20 00 00 00 00 00 00 00  # MODE SENSE
+LINES
 
 heading "A packet that lost its last byte is refused, and nothing changes"
 tapecard packet scripts.img --record drive.record --any-answer 00 00 00 00 00 00 00 00 00 00 00 00 >drive.log

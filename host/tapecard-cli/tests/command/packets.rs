@@ -134,6 +134,35 @@ fn returned_bytes_are_shown() {
         ]);
 }
 
+/// 02, A2: "The fresh record's speed becomes 250 instead of 0. Callers that relied on 0 set it themselves by 15h".
+#[test]
+fn the_speed_of_a_drive_just_switched_on() {
+    let sense = "1a 00 2a 00 20 00 00 00 00 00 00 00";
+    let select = "15 00 00 00 20 00 00 00 00 00 00 00";
+    let ready = "00 00 00 00 00 00 00 00 00 00 00 00";
+    let place = plate();
+    let mut list = [0; 32];
+    list[12..14].copy_from_slice(&[0x2A, 0x12]);
+    place.write("d", list);
+    for (image, device) in [("t.img", "stream"), ("f.img", "floppy")] {
+        place.run(&["new", "f.img", "--full", "--blocks", "4", "--force"]);
+        let words = ["packet", image, "--device", device, "--data", "d"];
+        let script = [sense, select, "change", ready, sense].join("\n");
+        let said = place.run_with(&words, script.as_bytes());
+        assert_eq!((said.status, said.err.as_str()), (3, ""), "{}", said.out);
+        said.has_lines(&[
+            "1A 00 2A 00 20 00 00 00 00 00 00 00  MODE SENSE",
+            "  speed     250",
+            "15 00 00 00 20 00 00 00 00 00 00 00  MODE SELECT",
+            "  speed     0 (automatic)",
+            "1A 00 2A 00 20 00 00 00 00 00 00 00  MODE SENSE",
+            "  speed     0 (automatic)",
+        ]);
+        let told = said.out.matches("  speed ").count();
+        assert_eq!(told, 3, "only MODE SELECT and MODE SENSE tell it");
+    }
+}
+
 #[test]
 fn bad_hex_ends_a_script_and_what_was_answered_is_kept() {
     let place = plate();

@@ -92,6 +92,13 @@ impl PacketDevice {
         }
     }
 
+    pub fn speed(&self) -> u16 {
+        match self {
+            PacketDevice::Stream(record, _) => record.speed(),
+            PacketDevice::Floppy(record, _) => record.speed(),
+        }
+    }
+
     pub fn sense(&self) -> Sense {
         match self {
             PacketDevice::Stream(record, _) => record.sense(),

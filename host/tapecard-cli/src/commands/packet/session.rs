@@ -92,6 +92,7 @@ impl<'a> PacketSession<'a> {
             (Ok(answer), room) => {
                 self.note(&bytes, &answer, &room);
                 show::answer(&answer, &self.device, &mut self.image, told)?;
+                show::speed(&bytes, &self.device, told)?;
                 match room::takes_data(&bytes) || self.out.is_some() {
                     true => Ok(()),
                     false => show::data(&room[..answer.bytes as usize], told),

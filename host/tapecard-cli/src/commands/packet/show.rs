@@ -2,7 +2,7 @@
 
 use std::io::Write;
 
-use tapecard::bytes::triple;
+use tapecard::bytes::{opcode, triple};
 use tapecard::packet::Answer;
 use tapecard::{Device, Refusal, sense_words};
 
@@ -55,6 +55,16 @@ pub fn answer(
     writeln!(out, "  sense     {}", sense_in_words(device))?;
     let sense = device.sense_bytes(image)?;
     writeln!(out, "            {}", hex::show(&sense))?;
+    Ok(())
+}
+
+/// The speed, after a packet that may set it or asks for it.
+pub fn speed(packet: &[u8], device: &PacketDevice, out: &mut dyn Write) -> Result<(), Failure> {
+    if let Some(&(opcode::MODE_SELECT | opcode::MODE_SENSE)) = packet.first() {
+        let speed = device.speed();
+        let meaning = if speed == 0 { " (automatic)" } else { "" };
+        writeln!(out, "  speed     {speed}{meaning}")?;
+    }
     Ok(())
 }
 
