@@ -145,7 +145,10 @@ void tapecard_packet(uint8_t record[TAPECARD_PACKET_RECORD_LENGTH], uint8_t *ima
 void tapecard_floppy_fresh(uint8_t record[TAPECARD_FLOPPY_RECORD_LENGTH], const uint8_t *image, size_t image_length,
                            uint8_t answer[TAPECARD_PACKET_ANSWER_LENGTH]);
 
-/* This cartridge is in now: position 0, loaded, attention medium changed, no sense, tape parameters as in a fresh record. */
+/*
+ * This cartridge is in now: position 0, loaded, attention medium changed, no sense, tape parameters as in a fresh record; the speed
+ * stays. The image is only read. Refused with 2, the record stays as it was.
+ */
 void tapecard_floppy_change(uint8_t record[TAPECARD_FLOPPY_RECORD_LENGTH], const uint8_t *image, size_t image_length,
                             uint8_t answer[TAPECARD_PACKET_ANSWER_LENGTH]);
 
