@@ -2,18 +2,15 @@
 -- Assumes nothing.
 use mathlib.Core.Path.{_≡_, refl, sym}
 use mathlib.Core.Bool.{Bool, true, false}
-use mathlib.Core.List.{List, [], _∷_}
-use Prim.Native.Nat.{ℕ, zero, suc, _+_, _*_, _/_, _%_, _^_, _<_, _≤_, max}
+use Prim.Native.Nat.{ℕ, zero, suc, _+_, _*_, _/_, _%_, _^_, _<_, _≤_}
 use native.Mathlib.Omega.{arith}
-use borrow.Author.Tests.{eq-eqb, ne-eqb, eqb-true}
+use borrow.Author.Tests.{eq-eqb, ne-eqb}
 use Rattle.numbers.specs.Choice.{_≡ᵇ_}
-use Rattle.numbers.specs.Member.{isIn}
 use Rattle.packet_state.specs.declared.state.Attention.{Attention}
 use Rattle.packet_state.specs.declared.state.Attention.the-variants.{Nothing, MediumChanged, Reset}
 use Rattle.pulse_parts.specs.declared.head.Motion.{Motion}
 use Rattle.pulse_parts.specs.declared.head.Motion.the-variants.{Still, Run, Load}
 use Rattle.numbers.specs.Flags.{isSet, weightOf}
-use Rattle.numbers.proofs.Cases.{never, or-by}
 use Rattle.packet_record.specs.PacketRecord.{attentionOf, attentionByte}
 use Rattle.pulse_record.specs.PulseRecord.{motionOf, motionByte, unsent}
 
@@ -24,18 +21,6 @@ two-back v h = omega arith
 
 pub four-back : (v : ℕ) → v < 2 ^ 32 → ((v / 256 / 256 / 256 % 256 * 256 + v / 256 / 256 % 256) * 256 + v / 256 % 256) * 256 + v % 256 ≡ v
 four-back v h = omega arith
-
--- ---- members of a table
-
--- the largest of a table
-unfoldable pub largest : List ℕ → ℕ
-largest [] = 0
-largest (y ∷ ys) = max y (largest ys)
-
-pub in-largest : (x : ℕ) (ys : List ℕ) → isIn x ys ≡ true → x ≤ largest ys
-unfolding isIn largest
-in-largest x [] e = never e refl
-in-largest x (y ∷ ys) e = or-by (y ≡ᵇ x) (isIn x ys) e (λ p. omega (arith, eqb-true y x p)) (λ p. omega (arith, in-largest x ys p))
 
 -- ---- flags
 

@@ -22,9 +22,9 @@ use Rattle.pulse.specs.Rules.{isFree, keepsRules, maxFormat, maxKind, maxTracks
 use Rattle.pulse_laws.proofs.Rules.{Cart, full, bare, to-rules}
 use Rattle.numbers.specs.Flags.{weightOf}
 use Rattle.numbers.proofs.Cases.{ands, or-by, test}
+use Rattle.numbers.proofs.MemberLaws.{largest, in-largest}
 use Rattle.pulse_record.specs.PulseRecord.{motionByte, waitedCode, encodeDrive}
 use Rattle.card_laws.specs.Promises.{Bytes, FitsBytes}
-use Rattle.card_laws.proofs.ByteLaws.{largest, in-largest}
 use Rattle.card_laws.proofs.CycleLaws.{few-held}
 
 -- a list of bytes, by its first and its rest

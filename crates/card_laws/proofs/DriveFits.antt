@@ -8,6 +8,7 @@ use native.Mathlib.Omega.{arith}
 use borrow.Author.Tests.{ne-eqb, leb-true, leb-false, ltb-true, ltb-false, not-false}
 use Rattle.numbers.specs.Choice.{_≡ᵇ_, _<ᵇ_, _≤ᵇ_}
 use Rattle.numbers.proofs.Cases.{ands, either, test}
+use Rattle.numbers.proofs.MemberLaws.{largest, in-largest}
 use Rattle.pulse_codes.specs.declared.arguments.Waiting.{Waiting}
 use Rattle.pulse_codes.specs.declared.arguments.Waiting.the-variants.{Nothing, For}
 use Rattle.pulse_codes.specs.Arguments.{highestNibble, highestRate, inRange, joined, needed, nibbleOf}
@@ -44,7 +45,7 @@ use Rattle.pulse_laws.proofs.Motion.{ended}
 use Rattle.pulse_laws.proofs.Rules.{Calm, Cart, bare, full, to-rules}
 use Rattle.pulse_laws.proofs.Steps.{Taken, by-argument, by-command, by-next-bit, by-unsupported, by-opening, by-report, by-reset, train-taken}
 use Rattle.card_laws.specs.Promises.{FitsBytes, HeldAlone}
-use Rattle.card_laws.proofs.ByteLaws.{largest, in-largest, weight-most}
+use Rattle.card_laws.proofs.ByteLaws.{weight-most}
 
 -- a drive of which only the numbers that must fit are kept: a step that leaves these leaves their facts
 abbrev numbersOf : Drive → Drive

@@ -13,6 +13,7 @@ use Rattle.numbers.specs.Choice.{_≡ᵇ_}
 use Rattle.numbers.specs.Counts.{countAt}
 use Rattle.numbers.proofs.Cases.{either}
 use Rattle.numbers.proofs.CountLaws.{count-bound}
+use Rattle.numbers.proofs.MemberLaws.{largest, in-largest}
 use Rattle.image.specs.declared.header.Header.{Header}
 use Rattle.image.specs.Header.{fieldsOf, brokenImage}
 use Rattle.image.proofs.HeaderLaws.{Sound, good-header, sound}
@@ -59,7 +60,7 @@ use Rattle.floppy_laws.proofs.Selecting.{Selected, speed-set, speed-wrong, tape
 use Rattle.floppy_record.specs.FloppyRecord.{decodeFloppy, encodeFloppy}
 use Rattle.tapecard.specs.FloppyCalls.{floppyRecord, floppyLeft, floppyPacketLeft, floppyFreshCall, floppyChangeCall, floppyPacketCall}
 use Rattle.card_laws.specs.Promises.{Bytes, FitsTape, FloppyFollows}
-use Rattle.card_laws.proofs.ByteLaws.{four-back, in-largest, largest}
+use Rattle.card_laws.proofs.ByteLaws.{four-back}
 use Rattle.card_laws.proofs.CycleLaws.{floppy-kept-by-cycle, decoded-state-fits, decoded-tape-fits}
 
 -- ---- the tape parameters fit

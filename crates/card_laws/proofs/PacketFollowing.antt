@@ -11,6 +11,7 @@ use lib.Dec.{eqb}
 use Rattle.numbers.specs.Choice.{if_then_else_}
 use Rattle.numbers.specs.Counts.{countAt}
 use Rattle.numbers.proofs.CountLaws.{count-bound}
+use Rattle.numbers.proofs.MemberLaws.{largest, in-largest}
 use Rattle.image.proofs.HeaderLaws.{sound}
 use Rattle.packet_state.specs.declared.state.State.{State}
 use Rattle.packet_parts.specs.Answers.{Left}
@@ -24,7 +25,7 @@ use Rattle.stream_laws.proofs.Refusals.{refused-keeps}
 use Rattle.packet_record.specs.PacketRecord.{decodeState, encodeState, encodeAnswer}
 use Rattle.tapecard.specs.PacketCalls.{packetFresh, packetChange, packetLeft, packetCall}
 use Rattle.card_laws.specs.Promises.{Bytes, PacketFollows}
-use Rattle.card_laws.proofs.ByteLaws.{four-back, in-largest, largest}
+use Rattle.card_laws.proofs.ByteLaws.{four-back}
 use Rattle.card_laws.proofs.CycleLaws.{state-kept-by-cycle, decoded-state-fits}
 
 -- ---- what an accepted packet leaves fits
