@@ -51,7 +51,7 @@ mounted s f next =
     if not (isFull s) then joined (refused (f .shared) brokenImage) (f .tape) else
     joined (ends next Good 0 0) (resetTape (fieldsOf s .capacity))
 
--- the fresh record of every packet device
+-- "in a fresh record": beside the one of every packet device
 abbrev pub freshFloppy : List ℕ → Floppy → FloppyOutcome
 freshFloppy s f = mounted s f freshState
 

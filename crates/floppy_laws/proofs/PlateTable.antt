@@ -36,7 +36,15 @@ plates-print = refl
 pub speed-plates : SpeedPlates
 unfolding answersTo decided carriedOut verdictBy foundFirst askedBy floppyRequest requestUnder keepsRecordRules keepsFloppyRules floppyCommand
     isFull keepsHeaderRules fieldsOf allHold isIn ends firstOf replyEnds goodList speedWork product resetTape selectWork workOf selectedTape tapeAfter mounted
-speed-plates = record { starts = refl; zero-set = refl; start-kept = refl; zero-kept = refl }
+speed-plates =
+    record {
+      starts = refl;
+      zero-set = refl;
+      start-kept = refl;
+      zero-kept = refl;
+      asks = record { begins = record { not-refused = refl; works = refl }; mode-sense = refl; page = refl; asked = omega arith };
+      sends = (record { begins = record { not-refused = refl; works = refl }; mode-select = refl; whole = refl }, refl);
+    }
 
 pub work-begins : WorkBegins
 unfolding answersTo decided carriedOut verdictBy foundFirst askedBy floppyRequest requestUnder keepsRecordRules keepsFloppyRules floppyCommand

@@ -12,11 +12,11 @@ use Rattle.numbers.specs.Over.{part}
 use Rattle.image.specs.Header.{fieldsOf, headerLength}
 use Rattle.opcodes.specs.declared.Command.the-variants.{Read, Write, ModeSelect, LoadUnload, Locate}
 use Rattle.packet_state.specs.declared.state.Attention.the-variants.{Nothing}
-use Rattle.packet_state.specs.States.{speeds, withSense}
+use Rattle.packet_state.specs.States.{speeds, withSpeed, withSense}
 use Rattle.packet_state.specs.Senses.{invalidField, wrongList}
 use Rattle.packet_parts.specs.Answers.{goodStatus}
 use Rattle.packet_parts.specs.Requests.{loadBit}
-use Rattle.packet_laws.specs.Plates.{sent, SpeedPlates as SpeedPlatesOf}
+use Rattle.packet_laws.specs.Plates.{standing, sent, SpeedPlates as SpeedPlatesOf}
 use Rattle.packet_laws.specs.Promises.{CutPacket as CutPacketOf, RefusedKeeps as RefusedKeepsOf, NumberExactly as NumberExactlyOf}
 use Rattle.packet_laws.specs.Promises.{BeginsExactly as BeginsExactlyOf, SpeedFollows as SpeedFollowsOf}
 use Rattle.packet_laws.specs.Words.{numberOf, statusOf, blocksOf, bytesOf, residueOf}
@@ -50,7 +50,7 @@ NumberExactly = NumberExactlyOf floppyDevice
 abbrev pub BeginsExactly : Type 0
 BeginsExactly = BeginsExactlyOf floppyDevice
 
--- 02, A2: 1Ah gives the record's speed, a list of 32 bytes that is taken sets it, and no other packet changes it.
+-- 02, A2: 1Ah gives the record's speed, 15h sets it exactly where its list is good, and no other packet changes it.
 abbrev pub SpeedFollows : Type 0
 SpeedFollows = SpeedFollowsOf floppyDevice
 
@@ -195,9 +195,11 @@ pub record Settled : Type 0 where
 abbrev pub PlatesPrint : Type 0
 PlatesPrint = allAgree plates ≡ true
 
--- 02, A2: what a fresh device tells of its speed, and one whose host wants 0.
+-- 02, A2: what a fresh device tells of its speed, and one whose host wants 0; made fresh where it stood at 3 with speed 0.
 abbrev pub SpeedPlates : Type 0
-SpeedPlates = SpeedPlatesOf floppyDevice (image 0) (freshFloppy (image 0) (placed 3) .state) (λ f. changedFloppy (image 0) f .state)
+SpeedPlates =
+    SpeedPlatesOf floppyDevice (image 0) (freshFloppy (image 0) (floppyOf (withSpeed (standing 3) 0) (resetTape 4)) .state)
+    (λ f. changedFloppy (image 0) f .state)
 
 -- What is asked above can be so: a READ and a WRITE that begin and move a block, a list of 28 bytes that is taken and one that is not.
 pub record WorkBegins : Type 0 where

@@ -1,14 +1,15 @@
 -- The speed through a packet, of any device whose work keeps it.
 -- Assumes nothing.
-use Prim.Native.Nat.{ℕ, min}
+use Prim.Native.Nat.{ℕ, _+_, _≤_, min}
 use native.Mathlib.Omega.{arith}
-use mathlib.Core.Bool.{Bool, true, false, not}
+use mathlib.Core.Bool.{Bool, true, false, not, false≢true}
 use mathlib.Core.List.{List}
-use mathlib.Core.Path.{_≡_, refl, sym, ap, _∙_}
+use mathlib.Core.Logic.{_↔_}
+use mathlib.Core.Path.{_≡_, refl, ap, _∙_}
 use lib.ListN.{length}
 use Rattle.numbers.specs.Choice.{if_then_else_}
-use Rattle.numbers.specs.Counts.{countBytes}
-use Rattle.numbers.specs.Over.{part}
+use Rattle.numbers.specs.Member.{isIn}
+use Rattle.numbers.proofs.CountLaws.{count-by-bytes}
 use Rattle.image.specs.declared.header.Header.{Header}
 use Rattle.image.specs.Header.{fieldsOf}
 use Rattle.opcodes.specs.declared.Command.the-variants.{ModeSelect, ModeSense}
@@ -16,99 +17,122 @@ use Rattle.packet_state.specs.declared.state.Ending.the-variants.{Good, Check}
 use Rattle.packet_state.specs.declared.state.Outcome.{Outcome}
 use Rattle.packet_state.specs.declared.state.State.{State}
 use Rattle.packet_state.specs.Senses.{wrongList}
-use Rattle.packet_state.specs.States.{withSpeed}
+use Rattle.packet_state.specs.States.{speeds, withSpeed}
+use Rattle.packet_state.proofs.RecordLaws.{speed-most}
 use Rattle.packet_parts.specs.declared.requests.Request.{Request}
 use Rattle.packet_parts.specs.Answers.{Left, ends, endedBefore, goodStatus}
-use Rattle.packet_parts.specs.Replies.{devicePage, fullList, repliedInto}
+use Rattle.packet_parts.specs.Replies.{devicePage, shortList, fullList, repliedInto}
 use Rattle.packet_parts.specs.Requests.{pageCode}
 use Rattle.packet_parts.specs.Shell.{Device, carriedOut, answersTo}
 use Rattle.packet_work.specs.Replies.{deviceMode}
 use Rattle.packet_work.specs.Settings.{listSpeed, goodList, speedWork}
 use Rattle.packet_laws.specs.Promises.{SpeedFollows}
-use Rattle.packet_laws.specs.Words.{statusOf, speedAt, accepted, TellsSpeed, SetsSpeed, Working}
-use Rattle.packet_laws.proofs.Refusals.{begins-room, begins-work, number-exactly, begins-exactly}
-use Rattle.packet_laws.proofs.Replies.{reply-part}
+use Rattle.packet_laws.specs.Words.{statusOf, accepted, AsksSpeed, SendsSpeed, Working}
+use Rattle.packet_laws.proofs.Refusals.{begins-passes, begins-room, begins-work, number-exactly, begins-exactly}
+use Rattle.packet_laws.proofs.Replies.{reply-at}
 use Rattle.packet_laws.proofs.Ways.{Way, cut, broken, unruly, short, ends-early, works, way}
 
--- ---- a list of 32 bytes, taken or wrong
+-- ---- the list that 1Ah gives
+
+page-speed : (h : Header) (speed byte4 unit : ℕ) → speed ≤ 500 → listSpeed (deviceMode h speed byte4 unit) ≡ speed
+page-speed h speed byte4 unit l = omega arith
+
+-- ---- the list that 15h takes, good or wrong
 
 module _ (st : State) (list : List ℕ) where
   abbrev byTest : Bool → Outcome
   byTest good = if not good then ends st (Check wrongList) 0 0 else ends (withSpeed st (listSpeed list)) Good 0 fullList
 
-  set-by : (good : Bool) → byTest good .answer .status ≡ goodStatus → byTest good .state .speed ≡ listSpeed list
+  taken-by : (good : Bool) → (byTest good .answer .status ≡ goodStatus) ↔ (good ≡ true)
   unfolding ends
-  set-by true e = refl
-  set-by false e = absurd (omega arith)
+  taken-by true = ((λ e. refl), (λ e. refl))
+  taken-by false = ((λ e. absurd (omega arith)), (λ e. absurd (false≢true e)))
 
-  left-by : (good : Bool) → (byTest good .answer .status ≡ goodStatus → ⊥) → byTest good .state .speed ≡ st .speed
-  unfolding ends
-  left-by true n = absurd (n refl)
-  left-by false n = refl
-
-  pub speed-set : speedWork st list .answer .status ≡ goodStatus → speedWork st list .state .speed ≡ listSpeed list
+  pub list-taken : (speedWork st list .answer .status ≡ goodStatus) ↔ (goodList list ≡ true)
   unfolding speedWork
-  speed-set = set-by (goodList list)
+  list-taken = taken-by (goodList list)
 
-  pub speed-left : (speedWork st list .answer .status ≡ goodStatus → ⊥) → speedWork st list .state .speed ≡ st .speed
-  unfolding speedWork
-  speed-left = left-by (goodList list)
+  pub list-set : goodList list ≡ true → speedWork st list .state .speed ≡ listSpeed list
+  unfolding speedWork ends
+  list-set e = rw e
+
+  pub list-left : goodList list ≡ false → speedWork st list .state .speed ≡ st .speed
+  unfolding speedWork ends
+  list-left e = rw e
 
 -- ---- a device whose work keeps the speed
 
--- the device's work gives the record's speed in page 2Ah, whatever else of the page is its own, takes the speed of a list of 32 bytes where it ends GOOD,
--- and leaves it otherwise
+-- its work gives the record's speed in page 2Ah, whatever else of the page is the device's own, does with a list of 32 bytes what 01 has, and leaves the speed
+-- otherwise
 pub record KeepsSpeed {R : Type 0} (d : Device R) : Type 0 where
   pub byte4 : R → ℕ
   pub unit : R → ℕ
   pub shares : (st : R) (x : State) → d .shared (d .withShared st x) ≡ x
+  pub ruled : (h : Header) (st : R) → d .keepsRules h st ≡ true → isIn (d .shared st .speed) speeds ≡ true
   pub needs : (h : Header) (st : R) (q : Request) → q .command ≡ ModeSense → pageCode q ≡ devicePage → d .asks h st q .needed ≡ min (q .length) fullList
-  pub gives-it : (s : List ℕ) (h : Header) (st : R) (q : Request) (buf : List ℕ) → q .command ≡ ModeSense → pageCode q ≡ devicePage
+  pub gives : (s : List ℕ) (h : Header) (st : R) (q : Request) (buf : List ℕ) → q .command ≡ ModeSense → pageCode q ≡ devicePage
       → d .work s h st q buf .buf ≡ repliedInto (deviceMode h (d .shared st .speed) (byte4 st) (unit st)) (q .length) buf
-  pub takes-it : (s : List ℕ) (h : Header) (st : R) (q : Request) (list : List ℕ) → q .command ≡ ModeSelect → q .length ≡ fullList
-      → statusOf (d .work s h st q list) ≡ goodStatus → d .shared (d .work s h st q list .state) .speed ≡ listSpeed list
-  pub leaves-it : (s : List ℕ) (h : Header) (st : R) (q : Request) (buf : List ℕ)
-      → (q .command ≡ ModeSelect → q .length ≡ fullList → statusOf (d .work s h st q buf) ≡ goodStatus → ⊥)
-      → d .shared (d .work s h st q buf .state) .speed ≡ d .shared st .speed
+  pub answers : (s : List ℕ) (h : Header) (st : R) (q : Request) (list : List ℕ) → q .command ≡ ModeSelect → q .length ≡ fullList
+      → d .work s h st q list .answer ≡ speedWork (d .shared st) list .answer
+  pub takes : (s : List ℕ) (h : Header) (st : R) (q : Request) (list : List ℕ) → q .command ≡ ModeSelect → q .length ≡ fullList
+      → d .shared (d .work s h st q list .state) ≡ speedWork (d .shared st) list .state
+  pub leaves : (s : List ℕ) (h : Header) (st : R) (q : Request) (buf : List ℕ)
+      → (q .command ≡ ModeSelect → q .length ≡ fullList → goodList buf ≡ true → ⊥) → d .shared (d .work s h st q buf .state) .speed ≡ d .shared st .speed
 
 -- ---- any packet
 
-module _ {R : Type 0} (d : Device R) (working : Working d) (keeps : KeepsSpeed d) (s : List ℕ) (st : R) (packet buf : List ℕ) where
-  told-by : TellsSpeed d s st packet buf → part (answersTo d s st packet buf .buf) speedAt 2 ≡ countBytes 2 (d .shared st .speed)
-  told-by t =
+module _ {R : Type 0} (d : Device R) (keeps : KeepsSpeed d) (s : List ℕ) (st : R) (packet buf : List ℕ) where
+  told : AsksSpeed d s st packet buf → listSpeed (answersTo d s st packet buf .buf) ≡ d .shared st .speed
+  told t =
       let q = d .request packet in
-      let page = deviceMode (fieldsOf s) (d .shared st .speed) (keeps .byte4 st) (keeps .unit st) in
+      let h = fieldsOf s in
+      let page = deviceMode h (d .shared st .speed) (keeps .byte4 st) (keeps .unit st) in
       let whole : length page ≡ fullList = refl in
       let room = begins-room d s st packet buf (t .begins) in
-      let needed = keeps .needs (fieldsOf s) st q (t .mode-sense) (t .page) in
-      let work = begins-work d s st packet buf (t .begins) in
-      let given = ap (λ (x : Left R). x .buf) work ∙ keeps .gives-it s (fieldsOf s) st q buf (t .mode-sense) (t .page) in
-      ap (λ (b : List ℕ). part b speedAt 2) given ∙ reply-part page buf (q .length) speedAt 2 (t .asked) (omega arith) (omega arith)
+      let needed = keeps .needs h st q (t .mode-sense) (t .page) in
+      let few = speed-most (d .shared st .speed) (keeps .ruled h st (begins-passes d s st packet buf (t .begins) .ruly)) in
+      ap (λ (x : Left R). listSpeed (x .buf)) (begins-work d s st packet buf (t .begins))
+      ∙ ap listSpeed (keeps .gives s h st q buf (t .mode-sense) (t .page))
+      ∙ count-by-bytes (repliedInto page (q .length) buf) page (shortList + 14) 2
+      (λ i a b. reply-at page buf (q .length) i (omega (arith, t .asked)) (omega arith) (omega arith))
+      ∙ page-speed h (d .shared st .speed) (keeps .byte4 st) (keeps .unit st) few
 
-  taken-by : SetsSpeed d s st packet buf → d .shared (answersTo d s st packet buf .state) .speed ≡ listSpeed buf
-  taken-by t =
-      let w = begins-work d s st packet buf (t .begins) in
-      ap (λ (x : Left R). d .shared (x .state) .speed) w
-      ∙ keeps .takes-it s (fieldsOf s) st (d .request packet) buf (t .mode-select) (t .whole) (sym (ap statusOf w) ∙ t .good)
+  module _ (t : SendsSpeed d s st packet buf) where
+    answered : answersTo d s st packet buf .answer ≡ speedWork (d .shared st) buf .answer
+    answered =
+        ap (λ (x : Left R). x .answer) (begins-work d s st packet buf (t .begins))
+        ∙ keeps .answers s (fieldsOf s) st (d .request packet) buf (t .mode-select) (t .whole)
 
-  kept-by : {x : Left R} → Way d s st packet buf x → (SetsSpeed d s st packet buf → ⊥) → d .shared (x .state) .speed ≡ d .shared st .speed
+    left : d .shared (answersTo d s st packet buf .state) ≡ speedWork (d .shared st) buf .state
+    left =
+        ap (λ (x : Left R). d .shared (x .state)) (begins-work d s st packet buf (t .begins))
+        ∙ keeps .takes s (fieldsOf s) st (d .request packet) buf (t .mode-select) (t .whole)
+
+    taken : (statusOf (answersTo d s st packet buf) ≡ goodStatus) ↔ (goodList buf ≡ true)
+    taken = rw answered (list-taken (d .shared st) buf)
+
+    set : goodList buf ≡ true → d .shared (answersTo d s st packet buf .state) .speed ≡ listSpeed buf
+    set g = rw left (list-set (d .shared st) buf g)
+
+  kept : Working d → {x : Left R} → Way d s st packet buf x → (SendsSpeed d s st packet buf → goodList buf ≡ true → ⊥)
+      → d .shared (x .state) .speed ≡ d .shared st .speed
   unfolding carriedOut
-  kept-by (cut n) f = refl
-  kept-by (broken t b) f = refl
-  kept-by (unruly t g b) f = refl
-  kept-by (short p e l) f = refl
-  kept-by (ends-early p x e k) f = ap (λ (y : State). y .speed) (keeps .shares st (endedBefore (d .shared st) x))
-  kept-by (works p e l) f =
+  kept working (cut n) f = refl
+  kept working (broken t b) f = refl
+  kept working (unruly t g b) f = refl
+  kept working (short p e l) f = refl
+  kept working (ends-early p x e k) f = ap (λ (y : State). y .speed) (keeps .shares st (endedBefore (d .shared st) x))
+  kept working (works p e l) f =
       let number = number-exactly d working s st packet buf 0 .1 (accepted p (λ u. l)) in
       let b = begins-exactly d working s st packet buf .1 (number, e) in
-      keeps .leaves-it s (fieldsOf s) st (d .request packet) buf (λ c w g.
-      f (record { begins = b; mode-select = c; whole = w; good = ap statusOf (begins-work d s st packet buf b) ∙ g }))
+      keeps .leaves s (fieldsOf s) st (d .request packet) buf (λ c w g. f (record { begins = b; mode-select = c; whole = w }) g)
 
 module _ {R : Type 0} (d : Device R) (working : Working d) (keeps : KeepsSpeed d) where
   pub speed-follows : SpeedFollows d
   speed-follows =
       record {
-        told = λ s st packet buf t. told-by d working keeps s st packet buf t;
-        set = λ s st packet list t. taken-by d working keeps s st packet list t;
-        kept = λ s st packet buf f. kept-by d working keeps s st packet buf (way d s st packet buf) f;
+        told = λ s st packet buf t. told d keeps s st packet buf t;
+        taken = λ s st packet list t. taken d keeps s st packet list t;
+        set = λ s st packet list t g. set d keeps s st packet list t g;
+        kept = λ s st packet buf f. kept d keeps s st packet buf working (way d s st packet buf) f;
       }

@@ -1,4 +1,4 @@
--- What plates of any packet device are made of: an image, a record, a packet, and what must come.
+-- What plates of any packet device are made of: an image, a record, a packet, and what must come; and the plates of 02, A2.
 -- Assumes nothing.
 use Prim.Native.Nat.{ℕ}
 use mathlib.Core.Bool.{Bool, true, false, _&&_}
@@ -12,6 +12,8 @@ use Rattle.packet_state.specs.declared.state.Attention.the-variants.{Nothing}
 use Rattle.packet_state.specs.declared.state.State.{State}
 use Rattle.packet_state.specs.States.{atPlace, withAttention, freshState}
 use Rattle.packet_parts.specs.Shell.{Device, answersTo}
+use Rattle.packet_work.specs.Settings.{goodList}
+use Rattle.packet_laws.specs.Words.{AsksSpeed, SendsSpeed}
 
 -- 01: "Image C 4, B 512", with this W, this U and these four kinds
 abbrev pub plateImage : ℕ → ℕ → List ℕ → List ℕ
@@ -50,10 +52,17 @@ same (x ∷ xs) (y ∷ ys) = (x ≡ᵇ y) && same xs ys
 abbrev pub speedList : ℕ → List ℕ
 speedList speed = replicate 12 0 ++ (0x2a ∷ 0x12 ∷ (replicate 12 0 ++ (countBytes 2 speed ++ replicate 4 0)))
 
+-- MODE SENSE of page 2Ah, all its 32 bytes; MODE SELECT of such a list
+abbrev pub askSpeed : List ℕ
+askSpeed = sent 0x1a 0 0x2a 0 32 0 0
+
+abbrev pub sendSpeed : List ℕ
+sendSpeed = sent 0x15 0 0 0 32 0 0
+
 module _ {R : Type 0} (d : Device R) (s : List ℕ) where
   -- bytes 14-15 of page 2Ah, which 1Ah gives after a header of 12 bytes
   abbrev pub speedTold : R → List ℕ
-  speedTold st = part (answersTo d s st (sent 0x1a 0 0x2a 0 32 0 0) (replicate 32 9) .buf) 26 2
+  speedTold st = part (answersTo d s st askSpeed (replicate 32 9) .buf) 26 2
 
   -- the record after TEST UNIT READY, to which a pending attention is told
   abbrev pub attended : R → R
@@ -61,7 +70,7 @@ module _ {R : Type 0} (d : Device R) (s : List ℕ) where
 
   -- the record after 15h with this speed
   abbrev pub setTo : ℕ → R → R
-  setTo speed st = answersTo d s st (sent 0x15 0 0 0 32 0 0) (speedList speed) .state
+  setTo speed st = answersTo d s st sendSpeed (speedList speed) .state
 
   -- of a drive whose fresh record and cartridge change are these
   pub record SpeedPlates (fresh : R) (changed : R → R) : Type 0 where
@@ -72,3 +81,6 @@ module _ {R : Type 0} (d : Device R) (s : List ℕ) where
     -- 01: "Changing the cartridge .. sets only P 0, loaded, attention medium changed, sense zero": the speed stays, either one
     pub start-kept : speedTold (attended (changed (attended fresh))) ≡ 0x00 ∷ 0xfa ∷ []
     pub zero-kept : speedTold (attended (changed (setTo 0 (attended fresh)))) ≡ 0x00 ∷ 0x00 ∷ []
+    -- so what `SpeedFollows` supposes can be so
+    pub asks : AsksSpeed d s (attended fresh) askSpeed (replicate 32 9)
+    pub sends : SendsSpeed d s (attended fresh) sendSpeed (speedList 0) × (goodList (speedList 0) ≡ true)

@@ -1,17 +1,16 @@
--- What every packet device promises, one named type each; proofs/ proves them of any device whose work refuses nothing, and keeps the speed.
+-- What every packet device promises, one named type each; proofs/ proves them of any device whose work refuses nothing, the last where it keeps the speed.
 -- Assumes nothing.
 use Prim.Native.Nat.{ℕ}
+use mathlib.Core.Bool.{true}
 use mathlib.Core.List.{List}
 use mathlib.Core.Logic.{_↔_}
 use mathlib.Core.Path.{_≡_}
 use lib.ListN.{length}
-use Rattle.numbers.specs.Counts.{countBytes}
-use Rattle.numbers.specs.Over.{part}
-use Rattle.packet_parts.specs.Answers.{notTwelveBytes}
+use Rattle.packet_parts.specs.Answers.{goodStatus, notTwelveBytes}
 use Rattle.packet_parts.specs.Requests.{packetLength}
 use Rattle.packet_parts.specs.Shell.{Device, answersTo}
-use Rattle.packet_work.specs.Settings.{listSpeed}
-use Rattle.packet_laws.specs.Words.{numberOf, speedAt, Refusal, Due, Unended, Begins, TellsSpeed, SetsSpeed}
+use Rattle.packet_work.specs.Settings.{listSpeed, goodList}
+use Rattle.packet_laws.specs.Words.{numberOf, statusOf, Refusal, Due, Unended, Begins, AsksSpeed, SendsSpeed}
 
 module _ {R : Type 0} (d : Device R) where
   -- "1: packet is not 12 bytes", whatever the image, the record and the buffer; nothing changes.
@@ -36,12 +35,14 @@ module _ {R : Type 0} (d : Device R) where
       (s : List ℕ) (st : R) (packet buf : List ℕ)
       → Begins d s st packet buf ↔ ((numberOf (answersTo d s st packet buf) ≡ 0) × Unended d s st packet buf)
 
-  -- 02, A2: "Callers that relied on 0 set it themselves by 15h, and MODE SENSE bytes 14-15 .. follow": 1Ah gives the record's speed, a list of 32 bytes that
-  -- is taken sets it, and no other packet changes it.
+  -- 02, A2: "Callers that relied on 0 set it themselves by 15h, and MODE SENSE bytes 14-15 .. follow": 1Ah gives a list with the record's speed, a list of
+  -- 32 bytes sets the speed that it has exactly where it is good, and no other packet changes it.
   pub record SpeedFollows : Type 0 where
-    pub told : (s : List ℕ) (st : R) (packet buf : List ℕ) → TellsSpeed d s st packet buf
-        → part (answersTo d s st packet buf .buf) speedAt 2 ≡ countBytes 2 (d .shared st .speed)
-    pub set : (s : List ℕ) (st : R) (packet list : List ℕ) → SetsSpeed d s st packet list
+    pub told : (s : List ℕ) (st : R) (packet buf : List ℕ) → AsksSpeed d s st packet buf
+        → listSpeed (answersTo d s st packet buf .buf) ≡ d .shared st .speed
+    pub taken : (s : List ℕ) (st : R) (packet list : List ℕ) → SendsSpeed d s st packet list
+        → (statusOf (answersTo d s st packet list) ≡ goodStatus) ↔ (goodList list ≡ true)
+    pub set : (s : List ℕ) (st : R) (packet list : List ℕ) → SendsSpeed d s st packet list → goodList list ≡ true
         → d .shared (answersTo d s st packet list .state) .speed ≡ listSpeed list
-    pub kept : (s : List ℕ) (st : R) (packet buf : List ℕ) → (SetsSpeed d s st packet buf → ⊥)
+    pub kept : (s : List ℕ) (st : R) (packet buf : List ℕ) → (SendsSpeed d s st packet buf → goodList buf ≡ true → ⊥)
         → d .shared (answersTo d s st packet buf .state) .speed ≡ d .shared st .speed

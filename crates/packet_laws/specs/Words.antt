@@ -12,7 +12,7 @@ use Rattle.opcodes.specs.declared.Command.the-variants.{Unknown, TestUnitReady,
 use Rattle.opcodes.specs.declared.Command.the-variants.{ModeSelect, ModeSense, LoadUnload, Locate, ReadPosition}
 use Rattle.packet_state.specs.declared.state.Sense.{Sense}
 use Rattle.packet_state.specs.declared.state.Verdict.the-variants.{Works}
-use Rattle.packet_parts.specs.Answers.{Left, goodStatus, notTwelveBytes, unrulyRecord, shortBuffer}
+use Rattle.packet_parts.specs.Answers.{Left, notTwelveBytes, unrulyRecord, shortBuffer}
 use Rattle.packet_parts.specs.Replies.{devicePage, shortList, fullList}
 use Rattle.packet_parts.specs.Requests.{packetLength, pageCode}
 use Rattle.packet_parts.specs.Shell.{Device, foundBy, endsFirst, answersTo}
@@ -34,10 +34,6 @@ bytesOf x = x .answer .bytes
 -- the information where the sense is valid, else 0
 abbrev pub residueOf : Sense → ℕ
 residueOf x = if x .valid then x .information else 0
-
--- 1Ah: "14-15 speed", of the page that stands after the header
-abbrev pub speedAt : ℕ
-speedAt = shortList + 14
 
 -- the commands that give bytes: 03h, 08h, 12h, 1Ah, 34h
 abbrev pub gives : Command → Bool
@@ -95,21 +91,20 @@ module _ {R : Type 0} (d : Device R) (s : List ℕ) (st : R) (packet buf : List 
     pub not-refused : numberOf (answersTo d s st packet buf) ≡ 0
     pub works : foundBy d (fieldsOf s) st (d .request packet) (length buf) ≡ Works
 
-  -- ---- the speed
+  -- ---- 02, A2: the speed
 
-  -- 1Ah of page 2Ah that begins, and asks for the two bytes of the speed too
-  pub record TellsSpeed : Type 0 where
+  -- "MODE SENSE bytes 14-15": 1Ah of page 2Ah that begins, and asks for all up to byte 15 of the page, which stands after the header
+  pub record AsksSpeed : Type 0 where
     pub begins : Begins
     pub mode-sense : d .request packet .command ≡ ModeSense
     pub page : pageCode (d .request packet) ≡ devicePage
-    pub asked : speedAt + 2 ≤ d .request packet .length
+    pub asked : shortList + 16 ≤ d .request packet .length
 
-  -- 15h with a list of 32 bytes that begins and ends GOOD
-  pub record SetsSpeed : Type 0 where
+  -- "by 15h": with a list of 32 bytes that begins
+  pub record SendsSpeed : Type 0 where
     pub begins : Begins
     pub mode-select : d .request packet .command ≡ ModeSelect
     pub whole : d .request packet .length ≡ fullList
-    pub good : statusOf (answersTo d s st packet buf) ≡ goodStatus
 
 -- the device's work refuses nothing: a packet that comes to it is given 0
 pub record Working {R : Type 0} (d : Device R) : Type 0 where

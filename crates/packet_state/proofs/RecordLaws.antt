@@ -6,6 +6,7 @@ use mathlib.Core.Path.{_≡_, refl}
 use borrow.Author.Tests.{le-leb, leb-true}
 use lib.Dec.{leb}
 use Rattle.numbers.specs.Member.{isIn}
+use Rattle.numbers.proofs.MemberLaws.{largest, in-largest}
 use Rattle.numbers.proofs.RuleLaws.{split}
 use Rattle.packet_state.specs.declared.state.State.{State}
 use Rattle.packet_state.specs.States.{freshState, speeds, highestKey, keepsRecordRules}
@@ -30,3 +31,7 @@ of-ruly end st r = rw (le-leb _ _ (r .place), r .speed, le-leb _ _ (r .key))
 pub fresh-speed : isIn (freshState .speed) speeds ≡ true
 unfolding isIn
 fresh-speed = refl
+
+pub speed-most : (speed : ℕ) → isIn speed speeds ≡ true → speed ≤ 500
+unfolding largest
+speed-most speed e = in-largest speed speeds e

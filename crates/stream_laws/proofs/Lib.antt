@@ -7,6 +7,7 @@ pub mod ReadingBack
 pub mod Refusals
 pub mod Settling
 pub mod Speeds
+pub mod Starting
 pub mod Storing
 pub mod Telling
 pub mod Working

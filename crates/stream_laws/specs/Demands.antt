@@ -43,7 +43,7 @@ NumberExactly = NumberExactlyOf streamDevice
 abbrev pub BeginsExactly : Type 0
 BeginsExactly = BeginsExactlyOf streamDevice
 
--- 02, A2: 1Ah gives the record's speed, a list of 32 bytes that is taken sets it, and no other packet changes it.
+-- 02, A2: 1Ah gives the record's speed, 15h sets it exactly where its list is good, and no other packet changes it.
 abbrev pub SpeedFollows : Type 0
 SpeedFollows = SpeedFollowsOf streamDevice
 
@@ -117,7 +117,7 @@ pub record Settled : Type 0 where
   pub fresh : Settles FreshPromise
   pub changed : (st : State) → Settles (ChangedPromise st)
 
--- 02, A2: "Refusals: none new": refusal 3 takes the fresh record over every cartridge, and the changed one where its speed is one of the five.
+-- 02, A2: "Refusals: none new": rule 3 holds of the fresh record over every cartridge, and of the changed one where its speed is one of the five.
 pub record StartsGood : Type 0 where
   pub fresh : (end : ℕ) → keepsRecordRules end freshState ≡ true
   pub changed : (end : ℕ) (st : State) → isIn (st .speed) speeds ≡ true → keepsRecordRules end (changedState st) ≡ true
