@@ -144,8 +144,9 @@ fn the_speed_of_a_drive_just_switched_on() {
     let mut list = [0; 32];
     list[12..14].copy_from_slice(&[0x2A, 0x12]);
     place.write("d", list);
+    let full = place.run(&["new", "f.img", "--full", "--blocks", "4"]);
+    assert_eq!(full.status, 0, "{}", full.err);
     for (image, device) in [("t.img", "stream"), ("f.img", "floppy")] {
-        place.run(&["new", "f.img", "--full", "--blocks", "4", "--force"]);
         let words = ["packet", image, "--device", device, "--data", "d"];
         let script = [sense, select, "change", ready, sense].join("\n");
         let said = place.run_with(&words, script.as_bytes());
