@@ -93,11 +93,17 @@ extern "C" {
 #define TAPECARD_WRITE_FILEMARK 0x10  /* N filemarks in bytes 2-4 */
 #define TAPECARD_SPACE 0x11           /* byte 1: 0 blocks, 1 filemarks, 3 end of data; signed count in bytes 2-4 */
 #define TAPECARD_INQUIRY 0x12         /* first min(byte 4, 36) bytes of who the drive is */
-#define TAPECARD_MODE_SELECT 0x15     /* list of byte 4 bytes, 0, 12 or 32, sets the speed */
+#define TAPECARD_MODE_SELECT 0x15     /* list of byte 4 bytes: one of 32 sets the speed, 0 and 12 set nothing */
 #define TAPECARD_MODE_SENSE 0x1A      /* page in byte 2, 00h or 2Ah, first min(byte 4, 12 or 32) bytes */
 #define TAPECARD_LOAD_UNLOAD 0x1B     /* byte 4: load 1, retension 2, EOT 4 */
 #define TAPECARD_LOCATE 0x2B          /* P = bytes 3-6 */
 #define TAPECARD_READ_POSITION 0x34   /* 20 bytes that tell P */
+
+/* The list of 32 bytes that sets the speed; its other bytes are not looked at. MODE SENSE of page 2Ah gives one. */
+#define TAPECARD_LIST_LENGTH 32   /* bytes of the list */
+#define TAPECARD_LIST_PAGE_AT 12  /* 2 bytes: the page's code and length, as below */
+#define TAPECARD_LIST_PAGE 0x2A12 /* page 2Ah, 18 bytes after these two */
+#define TAPECARD_LIST_SPEED_AT 26 /* 2 bytes: speed */
 
 /* Makes a fresh record: position 0, loaded, attention reset, speed 250, no sense. */
 void tapecard_fresh(uint8_t record[TAPECARD_PACKET_RECORD_LENGTH]);

@@ -103,16 +103,15 @@ static void send_packet(struct packet_drive *drive, const char *name, uint8_t op
     print_answer(name, drive->record, drive->answer);
 }
 
-/* A fresh drive starts at speed 250; a list of 32 bytes sets another one: 2Ah 12h after its first 12 bytes, the speed in 26-27. */
+/* A fresh drive starts at speed 250; a host that wants another one sets it. */
 static void set_speed(struct packet_drive *drive, uint16_t speed)
 {
-    static const uint8_t select[TAPECARD_PACKET_LENGTH] = {TAPECARD_MODE_SELECT, 0, 0, 0, 32};
-    uint8_t list[32] = {0};
+    static const uint8_t select[TAPECARD_PACKET_LENGTH] = {TAPECARD_MODE_SELECT, 0, 0, 0, TAPECARD_LIST_LENGTH};
+    uint8_t list[TAPECARD_LIST_LENGTH] = {0};
 
     printf("speed %lu\n", number_at(drive->record + TAPECARD_SPEED_AT, 2));
-    list[12] = 0x2A;
-    list[13] = 0x12;
-    put_number(list + 26, 2, speed);
+    put_number(list + TAPECARD_LIST_PAGE_AT, 2, TAPECARD_LIST_PAGE);
+    put_number(list + TAPECARD_LIST_SPEED_AT, 2, speed);
     tapecard_packet(drive->record, drive->image, sizeof drive->image, select, sizeof select, list, sizeof list,
                     drive->answer);
     print_answer("MODE SELECT", drive->record, drive->answer);

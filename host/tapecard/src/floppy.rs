@@ -42,7 +42,7 @@ impl Record {
         Ok(Record(bytes))
     }
 
-    /// The cartridge of this image was put in. Refused, nothing changes.
+    /// The cartridge of this image was put in; the speed stays. Refused, nothing changes.
     pub fn change(&mut self, image: &[u8]) -> Result<(), Refusal> {
         let mut answer = [0; 16];
         ffi::floppy_change(&mut self.0, image, &mut answer);

@@ -54,7 +54,7 @@ impl Record {
         Record(bytes)
     }
 
-    /// Another cartridge was put in.
+    /// Another cartridge was put in; the speed stays.
     pub fn change(&mut self) {
         ffi::change(&mut self.0);
     }

@@ -22,17 +22,17 @@ usage: tapecard packet IMAGE [--device stream|floppy] [--record FILE] [--cold]
                              [--room BYTES] [BYTE..]
 
 Sends a packet of twelve hexadecimal bytes, or without bytes each line of
-standard input, and shows status, blocks, bytes, position and sense, and for
-MODE SELECT and MODE SENSE the drive's speed. A line may also be `change`
-(another cartridge was put in) or `quit`; # begins a comment.
+standard input, and shows status, blocks, bytes, position and sense, and after
+MODE SELECT and MODE SENSE the speed: 250 where the drive was just switched on.
+A line may also be `change` (another cartridge was put in) or `quit`; # begins
+a comment.
 What a packet stored is on the disk before its answer is shown, so an interrupt
 (Ctrl-C) loses nothing that was answered; a bad line ends a script there.
   --device D     stream (usually), or floppy: blocks by number, rewritten in
                  place, no filemarks. It takes an image with every element
                  recorded, which tapecard new --full makes
   --record FILE  keep the drive's record between runs, 16 bytes (floppy: 32); a
-                 file that is not there is begun with a drive just switched on,
-                 whose speed is 250
+                 file that is not there is begun with a drive just switched on
   --cold         without --record: leave the attention of power-on pending, so
                  that the first packet meets it (else it is taken before)
   --data FILE    bytes that WRITE and MODE SELECT take, one after the other
