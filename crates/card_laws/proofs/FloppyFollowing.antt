@@ -13,7 +13,6 @@ use Rattle.numbers.specs.Choice.{_≡ᵇ_}
 use Rattle.numbers.specs.Counts.{countAt}
 use Rattle.numbers.proofs.Cases.{either}
 use Rattle.numbers.proofs.CountLaws.{count-bound}
-use Rattle.numbers.proofs.MemberLaws.{largest, in-largest}
 use Rattle.image.specs.declared.header.Header.{Header}
 use Rattle.image.specs.Header.{fieldsOf, brokenImage}
 use Rattle.image.proofs.HeaderLaws.{Sound, good-header, sound}
@@ -31,7 +30,8 @@ use Rattle.packet_state.specs.declared.state.Ending.{Ending}
 use Rattle.packet_state.specs.declared.state.Ending.the-variants.{Good}
 use Rattle.packet_state.specs.declared.state.Outcome.{Outcome}
 use Rattle.packet_state.specs.declared.state.State.{State}
-use Rattle.packet_state.specs.States.{speeds, freshState, changedState}
+use Rattle.packet_state.specs.States.{freshState, changedState}
+use Rattle.packet_state.proofs.RecordLaws.{speed-most}
 use Rattle.packet_parts.specs.declared.requests.Request.{Request}
 use Rattle.packet_parts.specs.Answers.{Left, refused, ends}
 use Rattle.packet_parts.specs.Replies.{replyEnds}
@@ -210,7 +210,7 @@ module _ (state image packet buf : List ℕ) where
   told-whole b e = whole-by image (decodeFloppy state) packet buf (way floppyDevice image (decodeFloppy state) packet buf) b e
 
   followed : Bytes state → Bytes packet → Bytes buf → decodeFloppy (floppyRecord state (x .answer) (x .state)) ≡ x .state
-  unfolding largest decodeFloppy
+  unfolding decodeFloppy
   followed a b c =
       either (λ (s : List ℕ). decodeFloppy s ≡ x .state) (eqb (numberOf x) 0) (encodeFloppy (x .state)) state
       (λ e.
@@ -218,7 +218,7 @@ module _ (state image packet buf : List ℕ) where
       let w = accepted-leaves image (decodeFloppy state) packet buf n in
       let g = sound _ _ (w .header) in
       let r = w .ruled in
-      let v = in-largest _ speeds (r .speed) in
+      let v = speed-most _ (r .speed) in
       floppy-kept-by-cycle (x .state) (record { position = omega arith; speed = omega arith; information = told-whole b n .information })
       (tape-left image (decodeFloppy state) packet buf c (decoded-tape-fits state a)))
       (λ e. sym (refused-keeps image (decodeFloppy state) packet buf (eqb-false (numberOf x) 0 e) .state-kept))

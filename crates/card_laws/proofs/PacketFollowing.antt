@@ -11,13 +11,13 @@ use lib.Dec.{eqb}
 use Rattle.numbers.specs.Choice.{if_then_else_}
 use Rattle.numbers.specs.Counts.{countAt}
 use Rattle.numbers.proofs.CountLaws.{count-bound}
-use Rattle.numbers.proofs.MemberLaws.{largest, in-largest}
 use Rattle.image.proofs.HeaderLaws.{sound}
 use Rattle.packet_state.specs.declared.state.State.{State}
 use Rattle.packet_parts.specs.Answers.{Left}
 use Rattle.packet_parts.specs.Requests.{requestUnder}
 use Rattle.stream_parts.specs.Requests.{requestOf}
-use Rattle.packet_state.specs.States.{speeds, freshState}
+use Rattle.packet_state.specs.States.{freshState}
+use Rattle.packet_state.proofs.RecordLaws.{speed-most}
 use Rattle.stream.specs.Packet.{packetStep}
 use Rattle.packet_laws.specs.Words.{numberOf, blocksOf, bytesOf}
 use Rattle.stream_laws.proofs.Leaving.{accepted-leaves}
@@ -41,13 +41,13 @@ module _ (state image packet buf : List ℕ) (b : Bytes packet) where
     bytes : bytesOf x < 2 ^ 32
 
   accepted-whole : numberOf x ≡ 0 → Whole true
-  unfolding requestOf requestUnder largest
+  unfolding requestOf requestUnder
   accepted-whole e =
       let w = accepted-leaves image (decodeState state) packet buf e in
       let a = w .accepted in
       let r = a .ruly in
       let g = sound _ _ (w .header) in
-      let f = in-largest _ speeds (r .speed) in
+      let f = speed-most _ (r .speed) in
       let i = count-bound packet 2 3 b in
       let m = mul-le-mul (a .blocks) (g .size-most) in
       record {
