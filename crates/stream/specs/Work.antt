@@ -29,8 +29,9 @@ use Rattle.packet_parts.specs.Requests.{loadBit}
 use Rattle.packet_work.specs.Moving.{moves}
 use Rattle.packet_work.specs.Replies.{replyWork}
 use Rattle.packet_work.specs.Settings.{speedWork, loadWork}
-use Rattle.stream_parts.specs.Replies.{streamInquiry, modeBytes, positionBytes, positionLength, pastWarning}
+use Rattle.stream_parts.specs.Replies.{streamInquiry, modeBytes, positionBytes, positionLength}
 use Rattle.stream_parts.specs.Requests.{spaceCode, overBlocks, toEndOfData, isBack, magnitude}
+use Rattle.stream_parts.specs.Warning.{pastWarning}
 use Rattle.packet_state.specs.Senses.{filemarkDetected, unreadableBlock, endOfData, volumeOverflow, earlyWarning, beginningOfTape, beyondData}
 use Rattle.packet_state.specs.States.{highestKey, atPlace}
 

@@ -45,6 +45,7 @@ use stream_parts::requests::OVER_BLOCKS;
 use stream_parts::requests::TO_END_OF_DATA;
 use stream_parts::requests::is_back;
 use stream_parts::requests::magnitude_of;
+use stream_parts::warning::is_past_warning;
 use transfer::Moved;
 use transfer::Stop;
 use transfer::reading::read_blocks;
@@ -91,7 +92,7 @@ fn write_ending(h: Header, asked: usize, moved: Moved) -> Ending
     if short {
         return Ending::Check(volume_overflow(left));
     }
-    let warned = (1 <= asked) & (h.capacity - h.warning < moved.place);
+    let warned = (1 <= asked) & is_past_warning(h, moved.place);
     if warned {
         return Ending::Check(early_warning());
     }

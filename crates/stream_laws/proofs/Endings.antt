@@ -14,7 +14,7 @@ use Rattle.transfer.specs.declared.Stop.the-variants.{Full, AtFilemark, AtBadBl
 use Rattle.transfer.proofs.EndLaws.{Ended}
 use Rattle.packet_state.specs.declared.state.Ending.{Ending}
 use Rattle.packet_parts.proofs.VerdictLaws.{Modest}
-use Rattle.stream_parts.specs.Replies.{pastWarning}
+use Rattle.stream_parts.specs.Warning.{pastWarning}
 use Rattle.stream.specs.Work.{endingOf, writeEnding}
 use Rattle.packet_laws.specs.Words.{residueOf}
 use Rattle.packet_laws.proofs.Endings.{senseOf}

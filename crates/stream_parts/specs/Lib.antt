@@ -1,3 +1,4 @@
 pub mod Requests
+pub mod Warning
 pub mod Replies
 pub mod Checks

@@ -3,7 +3,7 @@
 use Prim.Native.Nat.{ℕ, _+_, _-_}
 use mathlib.Core.Bool.{Bool}
 use mathlib.Core.List.{List, [], _∷_, _++_}
-use Rattle.numbers.specs.Choice.{if_then_else_, _≡ᵇ_, _<ᵇ_}
+use Rattle.numbers.specs.Choice.{if_then_else_, _≡ᵇ_}
 use Rattle.numbers.specs.Counts.{countBytes}
 use Rattle.numbers.specs.Flags.{weightOf}
 use Rattle.image.specs.declared.header.Header.{Header}
@@ -11,6 +11,7 @@ use Rattle.packet_state.specs.declared.state.State.{State}
 use Rattle.packet_parts.specs.declared.requests.Request.{Request}
 use Rattle.packet_parts.specs.Replies.{devicePage, shortList, fullList, inquiryBytes, modeHeader, devicePageBytes}
 use Rattle.packet_parts.specs.Requests.{pageCode}
+use Rattle.stream_parts.specs.Warning.{pastWarning}
 
 -- ---- 12h
 
@@ -40,10 +41,6 @@ modeBytes h st q =
 
 abbrev pub positionLength : ℕ
 positionLength = 20
-
--- "P > C - W"
-abbrev pub pastWarning : Header → ℕ → Bool
-pastWarning h p = h .capacity - h .warning <ᵇ p
 
 -- "20 bytes; byte 0 80h if P = 0, plus 40h if P > C - W; 4-7 and 8-11 P; others 0."
 abbrev pub positionBytes : Header → State → List ℕ

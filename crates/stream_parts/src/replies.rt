@@ -4,6 +4,7 @@ ghost use Prim.Native.Nat.{_%_, _≤_};
 ghost use Rattle.numbers.specs.Choice.{if_then_else_, _≡ᵇ_};
 ghost use Rattle.packet_parts.specs.Replies.{devicePage, shortList, fullList};
 ghost use Rattle.stream_parts.specs.Replies.{positionBytes};
+use crate::warning::is_past_warning;
 use image::header::Header;
 use numbers::counts::put_count4;
 use numbers::flags::weight_of;
@@ -32,7 +33,7 @@ pub fn position_bytes(h: Header, state: State) -> [u8; 20]
     ensures { λ r. ⌜ r ≡ positionBytes h state ⌝ }
 {
     let p = state.position;
-    let first = weight_of(p == 0, 0x80) + weight_of(h.capacity - h.warning < p, 0x40);
+    let first = weight_of(p == 0, 0x80) + weight_of(is_past_warning(h, p), 0x40);
     let mut bytes = [0; 20];
     bytes[0] = first;
     put_count4(&mut bytes, 4, p);

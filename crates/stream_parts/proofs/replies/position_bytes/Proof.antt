@@ -7,8 +7,8 @@ use Rattle.stream_parts.proofs.replies.position_bytes.Tie as tie
 weight-of-requires : tie.Need-weight-of-requires
 weight-of-requires c κs = search needs
 
-sub-weight-of : tie.Need-sub-weight-of
-sub-weight-of c = search needs
+is-past-warning-requires : tie.Need-is-past-warning-requires
+is-past-warning-requires c κs = search needs
 
 weight-of-requires-2 : tie.Need-weight-of-requires-2
 weight-of-requires-2 c κs = search needs
@@ -35,14 +35,15 @@ returns : tie.Need-returns
 returns c =
     let b = c .before .before .before .before in
     let w = b .before .before in
-    simp (c .before .put-count42 .ensures, b .put-count4 .ensures, w .weight-of2 .ensures .0, w .before .before .weight-of .ensures .0)
+    let l = w .before in
+    simp (c .before .put-count42 .ensures, b .put-count4 .ensures, w .weight-of2 .ensures .0, l .is-past-warning .ensures, l .before .weight-of .ensures .0)
 
 pub position-bytes-spec : {M : Type 1} → statement M
 position-bytes-spec =
     tie.close
     (tie.spec
     weight-of-requires
-    sub-weight-of
+    is-past-warning-requires
     weight-of-requires-2
     add-first
     array-write-bytes
