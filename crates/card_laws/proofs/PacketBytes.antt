@@ -88,13 +88,13 @@ pub ending-of : (b : Bool) (x y : Ending) → lowEnding (cond b x y) ≡ cond b 
 ending-of true x y = refl
 ending-of false x y = refl
 
-ending-low : (stop : Stop) (left : ℕ) → lowEnding (endingOf stop left) ≡ true
+ending-low : (h : Header) (stop : Stop) (left : ℕ) → lowEnding (endingOf h stop left) ≡ true
 unfolding endingOf
-ending-low Full left = refl
-ending-low AtFilemark left = refl
-ending-low AtBadBlock left = refl
-ending-low AtEnd left = refl
-ending-low AtBeginning left = refl
+ending-low h Full left = refl
+ending-low h AtFilemark left = refl
+ending-low h AtBadBlock left = refl
+ending-low h AtEnd left = refl
+ending-low h AtBeginning left = refl
 
 write-low : (h : Header) (asked : ℕ) (m : Moved) → lowEnding (writeEnding h asked m) ≡ true
 unfolding writeEnding
@@ -115,7 +115,7 @@ work-fits Unknown s h st q buf = ends-fits _ _ _ _
 work-fits TestUnitReady s h st q buf = ends-fits _ _ _ _
 work-fits Rewind s h st q buf = ends-fits _ _ _ _
 work-fits RequestSense s h st q buf = ends-fits _ _ _ _
-work-fits Read s h st q buf = ends-fits _ _ _ _ ∙ ending-low _ _
+work-fits Read s h st q buf = ends-fits _ _ _ _ ∙ ending-low _ _ _
 work-fits Write s h st q buf = ends-fits _ _ _ _ ∙ write-low _ _ _
 work-fits WriteFilemarks s h st q buf = ends-fits _ _ _ _ ∙ write-low _ _ _
 work-fits Space s h st q buf = simp (fits-of, ends-fits, ending-low, alike)

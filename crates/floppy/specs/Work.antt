@@ -1,7 +1,7 @@
 -- The work of each command of the floppy tape device, once nothing before it ended the packet.
 -- Assumes nothing.
 use Prim.Native.Nat.{ℕ, _-_, _≤_}
-use mathlib.Core.Bool.{not}
+use mathlib.Core.Bool.{false, not}
 use mathlib.Core.List.{List}
 use mathlib.Core.Path.{_≡_}
 use Rattle.numbers.specs.Choice.{if_then_else_, _≡ᵇ_, _<ᵇ_, _≤ᵇ_}
@@ -44,12 +44,12 @@ pub record Passed (s : List ℕ) (h : Header) (st : State) (t : Tape) : Type 0 w
 -- ---- 08h READ
 
 -- "Reads and writes stop at the product as the stream device does at U and at C; .. kind 2 counts as unreadable. Its residue on an unreadable block leaves
--- out the block in error"; no READ stops at the beginning
+-- out the block in error"; "W plays no part": no EOM; no READ stops at the beginning
 unfoldable pub readEnding : Stop → ℕ → Ending
 readEnding Full left = Good
 readEnding AtFilemark left = Check (unreadableBlock (left - 1))
 readEnding AtBadBlock left = Check (unreadableBlock (left - 1))
-readEnding AtEnd left = Check (endOfData left)
+readEnding AtEnd left = Check (endOfData false left)
 readEnding AtBeginning left = Good
 
 unfoldable pub readEnds : State → ℕ → ℕ → List ℕ → Reading → Left State

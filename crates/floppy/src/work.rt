@@ -56,7 +56,7 @@ fn without_one(left: usize) -> usize
     left - 1
 }
 
-// 02, A1: "Its residue on an unreadable block leaves out the block in error", and a filemark "counts as unreadable".
+// 02, A1: "Its residue on an unreadable block leaves out the block in error", and a filemark "counts as unreadable". "W plays no part": no EOM.
 fn read_ending(stop: Stop, left: usize) -> Ending
     ensures { λ r. ⌜ r ≡ readEnding stop left ⌝ }
 {
@@ -64,7 +64,7 @@ fn read_ending(stop: Stop, left: usize) -> Ending
         Stop::Full => Ending::Good,
         Stop::AtFilemark => Ending::Check(unreadable_block(without_one(left))),
         Stop::AtBadBlock => Ending::Check(unreadable_block(without_one(left))),
-        Stop::AtEnd => Ending::Check(end_of_data(left)),
+        Stop::AtEnd => Ending::Check(end_of_data(false, left)),
         Stop::AtBeginning => Ending::Good,
     }
 }

@@ -74,8 +74,8 @@ pub data ReadWay (s : List ℕ) (f : Floppy) (p n blocks : ℕ) : ℕ → Sense 
   all-copied : blocks ≡ n → ReadWay s f p n blocks goodStatus noSense (p + blocks)
   -- "Its residue on an unreadable block leaves out the block in error"
   met-bad-block : blocks < n → Unreadable s f (p + blocks) → ReadWay s f p n blocks checkCondition (unreadableBlock (n - blocks - 1)) (p + blocks + 1)
-  -- "Reads .. stop at the product as the stream device does at U"
-  met-end : blocks < n → p + blocks ≡ endOf f → ReadWay s f p n blocks checkCondition (endOfData (n - blocks)) (p + blocks)
+  -- "Reads .. stop at the product as the stream device does at U"; "W plays no part": no EOM
+  met-end : blocks < n → p + blocks ≡ endOf f → ReadWay s f p n blocks checkCondition (endOfData false (n - blocks)) (p + blocks)
 
 abbrev pub ReadEnds : List ℕ → Floppy → ℕ → Left Floppy → Type 0
 ReadEnds s f n x = ReadWay s f (placeOf f) n (blocksOf x) (statusOf x) (senseIn x) (placeOf (x .state))

@@ -95,3 +95,17 @@ withRecorded h u =
       medium = h .medium;
       warning = h .warning;
     }
+
+-- the same header with another W
+abbrev pub withWarning : Header → ℕ → Header
+withWarning h w =
+    record {
+      size = h .size;
+      capacity = h .capacity;
+      recorded = h .recorded;
+      kinds = h .kinds;
+      blocks = h .blocks;
+      protect = h .protect;
+      medium = h .medium;
+      warning = w;
+    }

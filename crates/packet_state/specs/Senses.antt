@@ -19,6 +19,11 @@ stopped key asc ascq filemark eom left =
 abbrev pub noSense : Sense
 noSense = plain 0 0 0
 
+-- the sense with another EOM
+abbrev pub withEom : Sense → Bool → Sense
+withEom x eom =
+    record { key = x .key; asc = x .asc; ascq = x .ascq; filemark = x .filemark; eom = eom; valid = x .valid; information = x .information }
+
 -- ---- ends before the work
 
 -- "A pending attention ends any packet but 03h and 12h with 6/28/00 (medium) or 6/29/00 (reset)"
@@ -57,9 +62,9 @@ filemarkDetected left = stopped 0 0 1 true false left
 abbrev pub unreadableBlock : ℕ → Sense
 unreadableBlock left = stopped 3 0x11 0 false false left
 
--- "P = U: stop, 8/00/05, no EOM"
-abbrev pub endOfData : ℕ → Sense
-endOfData left = stopped 8 0 5 false false left
+-- "P = U: stop, 8/00/05, no EOM"; 02, A3: "EOM is shown too when that happens at or after early warning"
+abbrev pub endOfData : Bool → ℕ → Sense
+endOfData eom left = stopped 8 0 5 false eom left
 
 -- "At P = C: stop, key D, EOM, 00/02, valid, information the rest"
 abbrev pub volumeOverflow : ℕ → Sense

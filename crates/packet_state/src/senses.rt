@@ -108,10 +108,10 @@ pub fn unreadable_block(left: usize) -> Sense
     stop_sense(MEDIUM_ERROR, 0x11, 0x00, false, false, left)
 }
 
-pub fn end_of_data(left: usize) -> Sense
-    ensures { λ r. ⌜ r ≡ endOfData left ⌝ }
+pub fn end_of_data(eom: bool, left: usize) -> Sense
+    ensures { λ r. ⌜ r ≡ endOfData eom left ⌝ }
 {
-    stop_sense(BLANK_CHECK, 0x00, 0x05, false, false, left)
+    stop_sense(BLANK_CHECK, 0x00, 0x05, false, eom, left)
 }
 
 pub fn volume_overflow(left: usize) -> Sense

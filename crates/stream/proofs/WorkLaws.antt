@@ -38,7 +38,7 @@ module _ (s : List ℕ) (h : Header) (st : State) (asked : ℕ) (buf new : List 
   pub read-less : m .left ≤ asked
   read-less = rw (ap (λ (r : Reading). r .moved .left) run) (read-left s (h .size) (h .kinds) (h .blocks) (h .recorded) asked 0 (st .position) buf)
 
-  pub read-went : (x : Ending) (r : Outcome) → x ≡ endingOf (m .stop) (m .left) → r ≡ moves st asked (h .size) m x
+  pub read-went : (x : Ending) (r : Outcome) → x ≡ endingOf h (m .stop) (m .left) → r ≡ moves st asked (h .size) m x
       → done r s new ≡ readWork s h st asked buf
   unfolding readWork readEnds
   read-went x r p q = rw (← run, q, p)

@@ -45,20 +45,20 @@ pub record Passed (s : List ℕ) (h : Header) (st : State) (q : Request) : Type 
 -- ---- 08h READ
 
 -- "Filemark: P + 1, stop, key 0, filemark, 00/01. Unreadable: P + 1, stop, 3/11/00. P = U: stop, 8/00/05, no EOM. A stop is valid with information N minus
--- blocks copied."; SPACE's "End of data 8/00/05; beginning key 0, EOM, 00/04"
-unfoldable pub endingOf : Stop → ℕ → Ending
-endingOf Full left = Good
-endingOf AtFilemark left = Check (filemarkDetected left)
-endingOf AtBadBlock left = Check (unreadableBlock left)
-endingOf AtEnd left = Check (endOfData left)
-endingOf AtBeginning left = Check (beginningOfTape left)
+-- blocks copied."; SPACE's "End of data 8/00/05; beginning key 0, EOM, 00/04"; 02, A3: "So 8/00/05 on READ and SPACE carries EOM when U > C - W."
+unfoldable pub endingOf : Header → Stop → ℕ → Ending
+endingOf h Full left = Good
+endingOf h AtFilemark left = Check (filemarkDetected left)
+endingOf h AtBadBlock left = Check (unreadableBlock left)
+endingOf h AtEnd left = Check (endOfData (pastWarning h (h .recorded)) left)
+endingOf h AtBeginning left = Check (beginningOfTape left)
 
-unfoldable pub readEnds : State → ℕ → ℕ → List ℕ → Reading → Left State
-readEnds st asked size s r = done (moves st asked size (r .moved) (endingOf (r .moved .stop) (r .moved .left))) s (r .buf)
+unfoldable pub readEnds : Header → State → ℕ → List ℕ → Reading → Left State
+readEnds h st asked s r = done (moves st asked (h .size) (r .moved) (endingOf h (r .moved .stop) (r .moved .left))) s (r .buf)
 
 unfoldable pub readWork : List ℕ → Header → State → ℕ → List ℕ → Left State
 readWork s h st asked buf =
-    readEnds st asked (h .size) s (readFrom s (h .size) (h .kinds) (h .blocks) (h .recorded) asked 0 (st .position) buf)
+    readEnds h st asked s (readFrom s (h .size) (h .kinds) (h .blocks) (h .recorded) asked 0 (st .position) buf)
 
 -- ---- 0Ah WRITE, 10h WRITE FILEMARK
 
@@ -93,14 +93,14 @@ spaceRun s h p code count =
     if isBack count then marksBack s (h .kinds) p (magnitude count) else
     marksOn s (h .kinds) (h .recorded - p) (magnitude count) p
 
-abbrev pub spaceEnds : State → Moved → Outcome
-spaceEnds st moved = ends (atPlace st (moved .place)) (endingOf (moved .stop) (moved .left)) 0 0
+abbrev pub spaceEnds : Header → State → Moved → Outcome
+spaceEnds h st moved = ends (atPlace st (moved .place)) (endingOf h (moved .stop) (moved .left)) 0 0
 
 -- "Code 3: P = U."
 unfoldable pub spaceWork : List ℕ → Header → State → ℕ → ℕ → Outcome
 spaceWork s h st code count =
     if code ≡ᵇ toEndOfData then ends (atPlace st (h .recorded)) Good 0 0 else
-    spaceEnds st (spaceRun s h (st .position) code count)
+    spaceEnds h st (spaceRun s h (st .position) code count)
 
 -- ---- 15h MODE SELECT
 

@@ -56,14 +56,15 @@ use transfer::spacing::marks_on;
 use transfer::writing::write_blocks;
 use transfer::writing::write_filemarks;
 
-fn ending_of(stop: Stop, left: usize) -> Ending
-    ensures { λ r. ⌜ r ≡ endingOf stop left ⌝ }
+fn ending_of(h: Header, stop: Stop, left: usize) -> Ending
+    requires { ⌜ h .warning ≤ h .capacity ⌝ }
+    ensures { λ r. ⌜ r ≡ endingOf h stop left ⌝ }
 {
     match stop {
         Stop::Full => Ending::Good,
         Stop::AtFilemark => Ending::Check(filemark_detected(left)),
         Stop::AtBadBlock => Ending::Check(unreadable_block(left)),
-        Stop::AtEnd => Ending::Check(end_of_data(left)),
+        Stop::AtEnd => Ending::Check(end_of_data(is_past_warning(h, h.recorded), left)),
         Stop::AtBeginning => Ending::Check(beginning_of_tape(left)),
     }
 }
@@ -79,7 +80,7 @@ fn read(image: &[u8], h: Header, state: State, asked: usize, buf: &mut [u8]) -> 
     let size = h.size;
     let moved = read_blocks(image, size, h.kinds, h.blocks, h.recorded, buf, asked, p);
     let stop = moved.stop;
-    let ending = ending_of(stop, moved.left);
+    let ending = ending_of(h, stop, moved.left);
     end_moved(state, asked, size, moved, ending)
 }
 
@@ -164,7 +165,7 @@ fn space(image: &[u8], h: Header, state: State, code: u8, count: usize) -> Outco
     let p = state.position;
     let moved = space_run(image, h, p, code, count);
     let stop = moved.stop;
-    let ending = ending_of(stop, moved.left);
+    let ending = ending_of(h, stop, moved.left);
     end(stand_at(state, moved.place), ending, 0, 0)
 }
 

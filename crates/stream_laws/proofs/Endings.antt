@@ -21,13 +21,13 @@ use Rattle.packet_laws.proofs.Endings.{senseOf}
 
 -- ---- keys and information
 
-pub ending-modest : (stop : Stop) (left : ℕ) → Modest left (senseOf (endingOf stop left))
+pub ending-modest : (h : Header) (stop : Stop) (left : ℕ) → Modest left (senseOf (endingOf h stop left))
 unfolding endingOf
-ending-modest Full left = omega arith
-ending-modest AtFilemark left = omega arith
-ending-modest AtBadBlock left = omega arith
-ending-modest AtEnd left = omega arith
-ending-modest AtBeginning left = omega arith
+ending-modest h Full left = omega arith
+ending-modest h AtFilemark left = omega arith
+ending-modest h AtBadBlock left = omega arith
+ending-modest h AtEnd left = omega arith
+ending-modest h AtBeginning left = omega arith
 
 pub write-modest : (h : Header) (asked : ℕ) (m : Moved) → Modest (m .left) (senseOf (writeEnding h asked m))
 unfolding writeEnding
@@ -38,11 +38,11 @@ write-modest h asked m =
 
 -- ---- residues
 
-pub read-residue : (n : ℕ) (m : Moved) → Ended n m → n - m .left + residueOf (senseOf (endingOf (m .stop) (m .left))) ≡ n
+pub read-residue : (h : Header) (n : ℕ) (m : Moved) → Ended n m → n - m .left + residueOf (senseOf (endingOf h (m .stop) (m .left))) ≡ n
 unfolding endingOf
-read-residue n m e = by (m .stop) refl
+read-residue h n m e = by (m .stop) refl
   where
-    by : (stop : Stop) → m .stop ≡ stop → n - m .left + residueOf (senseOf (endingOf stop (m .left))) ≡ n
+    by : (stop : Stop) → m .stop ≡ stop → n - m .left + residueOf (senseOf (endingOf h stop (m .left))) ≡ n
     by Full q = let z = e .full q in omega arith
     by AtFilemark q = let l = e .less in omega arith
     by AtBadBlock q = let l = e .less in omega arith

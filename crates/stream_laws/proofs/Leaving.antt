@@ -165,8 +165,8 @@ module _ (s : List ℕ) (st : State) (q : Request) (buf : List ℕ) (good : keep
       let X = readFrom s (h .size) (h .kinds) (h .blocks) (h .recorded) n 0 p buf in
       let less = read-left s (h .size) (h .kinds) (h .blocks) (h .recorded) n 0 p buf in
       let place = read-place s (h .size) (h .kinds) (h .blocks) (h .recorded) n 0 p buf (r .place) in
-      let e = endingOf (X .moved .stop) (X .moved .left) in
-      let m = ending-modest (X .moved .stop) (X .moved .left) in
+      let e = endingOf h (X .moved .stop) (X .moved .left) in
+      let m = ending-modest h (X .moved .stop) (X .moved .left) in
       let run = read-run s (h .size) (h .kinds) (h .blocks) (h .recorded) n 0 p buf in
       let few = few-moved s (h .size) (h .kinds) (h .blocks) (h .recorded) run in
       let g = sound s h (good-header s good) in
@@ -214,8 +214,8 @@ module _ (s : List ℕ) (st : State) (q : Request) (buf : List ℕ) (good : keep
       (λ e.
       let m = spaceRun s h p code n in
       let r = space-run code in
-      quiet (atPlace st (m .place)) (endingOf (m .stop) (m .left)) 0 (r .0) (kept-rules .speed)
-      (omega (arith, r .1, far-most, ending-modest (m .stop) (m .left))))
+      quiet (atPlace st (m .place)) (endingOf h (m .stop) (m .left)) 0 (r .0) (kept-rules .speed)
+      (omega (arith, r .1, far-most, ending-modest h (m .stop) (m .left))))
 
   selects : Leaves s st q buf false false (done (selectWork st (q .length) buf) s buf)
   unfolding selectWork speedWork

@@ -1,3 +1,4 @@
+pub mod EndOfData
 pub mod Endings
 pub mod Ignoring
 pub mod Keeping

@@ -1,4 +1,4 @@
--- 01's worked examples marked *, and those of 02, A2, computed.
+-- 01's worked examples marked *, and those of 02, A2 and A3, computed.
 -- Assumes nothing.
 use native.Mathlib.Omega.{arith}
 use mathlib.Core.Path.{refl}
@@ -21,7 +21,7 @@ use Rattle.stream_parts.specs.Requests.{requestOf, isBack, magnitude}
 use Rattle.packet_state.specs.States.{keepsRecordRules}
 use Rattle.stream.specs.Work.{endingOf, readEnds, readWork, writeEnding, writeEnds, writeWork, markWork, spaceRun, spaceWork, selectWork}
 use Rattle.stream.specs.Work.{locateWork, workOf}
-use Rattle.stream_laws.specs.Demands.{PlatesPrint, SpeedPlates, WorkBegins}
+use Rattle.stream_laws.specs.Demands.{PlatesPrint, EndOfDataPlates, SpeedPlates, WorkBegins}
 
 pub plates-print : PlatesPrint
 unfolding answersTo decided carriedOut verdictBy foundFirst askedBy requestOf requestUnder isBack magnitude keepsRecordRules streamCommand
@@ -29,6 +29,12 @@ unfolding answersTo decided carriedOut verdictBy foundFirst askedBy requestOf re
     marksOn marksBack layFrom ends endingOf readEnds readWork writeEnding writeEnds writeWork markWork spaceRun spaceWork firstOf replyEnds
     goodList speedWork selectWork loadWork locateWork workOf
 plates-print = refl
+
+pub end-of-data-plates : EndOfDataPlates
+unfolding answersTo decided carriedOut verdictBy foundFirst askedBy requestOf requestUnder isBack magnitude keepsRecordRules streamCommand
+    headerOf keepsHeaderRules fieldsOf allHold isIn kindOf kindAt blockAt stopAt readFrom blocksOn marksOn ends endingOf readEnds readWork spaceRun
+    spaceWork locateWork workOf
+end-of-data-plates = refl
 
 pub speed-plates : SpeedPlates
 unfolding answersTo decided carriedOut verdictBy foundFirst askedBy requestOf requestUnder keepsRecordRules streamCommand keepsHeaderRules fieldsOf

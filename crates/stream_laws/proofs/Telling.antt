@@ -39,7 +39,7 @@ use Rattle.stream_laws.proofs.Working.{step-is, by-store}
 -- ---- the way of each run
 
 read-way : (s : List ℕ) (p n : ℕ) (m : Moved) → ReadStops s (fieldsOf s .kinds) (fieldsOf s .recorded) p n m
-    → ReadWay s p n (n - m .left) (statusFor (endingOf (m .stop) (m .left))) (senseOf (endingOf (m .stop) (m .left))) (m .place)
+    → ReadWay s p n (n - m .left) (statusFor (endingOf (fieldsOf s) (m .stop) (m .left))) (senseOf (endingOf (fieldsOf s) (m .stop) (m .left))) (m .place)
 unfolding endingOf
 read-way s p n m (ReadStops.all-copied f z w) =
     let v : n - m .left ≡ n = omega arith in

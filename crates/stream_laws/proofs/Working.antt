@@ -54,7 +54,7 @@ moved-by : (s : List ℕ) (st : State) (q : Request) (buf : List ℕ) {c : Comma
 unfolding workOf readWork readEnds writeWork writeEnds markWork
 moved-by s st q buf by-read =
     let h = fieldsOf s in
-    simp ends-is (read-residue (q .count) _ (read-ended s (h .size) (h .kinds) (h .blocks) (h .recorded) (q .count) 0 (st .position) buf))
+    simp ends-is (read-residue h (q .count) _ (read-ended s (h .size) (h .kinds) (h .blocks) (h .recorded) (q .count) 0 (st .position) buf))
 moved-by s st q buf by-write =
     let h = fieldsOf s in
     simp ends-is (write-residue h (q .count) _ (lay-ended _ _ _ (q .count) 0 (st .position) s))

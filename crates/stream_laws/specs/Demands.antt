@@ -1,7 +1,7 @@
 -- The demands on the packet drive, one named type each; proofs/ proves them.
 -- Assumes nothing.
 use Prim.Native.Nat.{ℕ, _+_, _*_, _≤_, _<_}
-use mathlib.Core.Bool.{true}
+use mathlib.Core.Bool.{true, false}
 use mathlib.Core.List.{List}
 use mathlib.Core.Path.{_≡_}
 use lib.ListN.{replicate}
@@ -10,7 +10,7 @@ use Rattle.numbers.specs.Outcomes.{Settles}
 use Rattle.numbers.specs.Over.{part}
 use Rattle.image.specs.declared.elements.Kind.the-variants.{Filemark}
 use Rattle.image.specs.Header.{fieldsOf, keepsHeaderRules, withRecorded}
-use Rattle.opcodes.specs.declared.Command.the-variants.{Read, Write, WriteFilemarks}
+use Rattle.opcodes.specs.declared.Command.the-variants.{Read, Write, WriteFilemarks, Locate}
 use Rattle.packet_state.specs.declared.state.Outcome.{Outcome}
 use Rattle.packet_state.specs.declared.state.State.{State}
 use Rattle.packet_state.specs.Senses.{unreadableBlock}
@@ -21,9 +21,11 @@ use Rattle.packet_laws.specs.Promises.{CutPacket as CutPacketOf, RefusedKeeps a
 use Rattle.packet_laws.specs.Promises.{BeginsExactly as BeginsExactlyOf, SpeedFollows as SpeedFollowsOf}
 use Rattle.packet_laws.specs.Words.{numberOf, blocksOf, bytesOf, residueOf}
 use Rattle.stream_parts.specs.Requests.{requestOf}
+use Rattle.stream_parts.specs.Warning.{pastWarning}
 use Rattle.stream.specs.Packet.{FreshPromise, ChangedPromise, PacketPromise, streamDevice, packetStep}
+use Rattle.stream_laws.specs.EndOfData.{stepBefore, readsOrSpaces, tellsEnd, carryingEom}
 use Rattle.stream_laws.specs.History.{Later}
-use Rattle.stream_laws.specs.Plates.{image, unreadableAtTwo, readTwo, allAgree, plates, BeginsAndMoves}
+use Rattle.stream_laws.specs.Plates.{image, unreadableAtTwo, readTwo, allAgree, plates, endPlates, BeginsAndMoves}
 use Rattle.stream_laws.specs.Words.{BeginsWork, Moves, stores, IsRecorded, IsElement, EveryReadGives, Kept, AlikeBelowU}
 use Rattle.stream_laws.specs.Words.{ReadEnds, WriteEnds, passedBeside, GoodRead, BlocksGood, MarksGood, SameBelowU}
 
@@ -109,6 +111,25 @@ pub record WriteSettled : Type 0 where
   pub blocks-one : (s : List ℕ) (st : State) (n : ℕ) (buf : List ℕ) (x y : Left State) → BlocksGood s st n buf x → BlocksGood s st n buf y → SameBelowU x y
   pub marks-one : (s : List ℕ) (st : State) (n : ℕ) (buf : List ℕ) (x y : Left State) → MarksGood s st n buf x → MarksGood s st n buf y → SameBelowU x y
 
+-- 02, A3: "So 8/00/05 on READ and SPACE carries EOM when U > C - W. The cases with W 0 stay."
+pub record EndOfDataEom : Type 0 where
+  -- READ's and SPACE's 8/00/05 carries EOM exactly then
+  pub shown : (s : List ℕ) (st : State) (packet buf : List ℕ)
+      → readsOrSpaces (requestOf packet .command) ≡ true → tellsEnd (packetStep s st packet buf) ≡ true
+      → packetStep s st packet buf .state .sense .eom ≡ pastWarning (fieldsOf s) (fieldsOf s .recorded)
+  -- LOCATE's never does
+  pub located : (s : List ℕ) (st : State) (packet buf : List ℕ)
+      → requestOf packet .command ≡ Locate → tellsEnd (packetStep s st packet buf) ≡ true
+      → packetStep s st packet buf .state .sense .eom ≡ false
+  -- all else is as before: answer, record, image and buffer of every packet
+  pub else-before : (s : List ℕ) (st : State) (packet buf : List ℕ)
+      → packetStep s st packet buf ≡ carryingEom (requestOf packet .command) (fieldsOf s) (stepBefore s st packet buf)
+  -- 01: "8/00/05, no EOM": before, none did
+  pub none-before : (s : List ℕ) (st : State) (packet buf : List ℕ) → tellsEnd (stepBefore s st packet buf) ≡ true
+      → stepBefore s st packet buf .state .sense .eom ≡ false
+  -- "The cases with W 0 stay."
+  pub unwarned : (s : List ℕ) (st : State) (packet buf : List ℕ) → fieldsOf s .warning ≡ 0 → packetStep s st packet buf ≡ stepBefore s st packet buf
+
 -- "Prove that any two outcomes allowed by it coincide": what the promises of `packet`, `fresh` and `changed` allow.
 pub record Settled : Type 0 where
   pub packet : (s : List ℕ) (st : State) (packet buf : List ℕ) (r r' : Outcome) (image image' buf' buf'' : List ℕ)
@@ -189,6 +210,10 @@ ReadsBack =
 -- 01: "A small set is proved together as one table (*)"
 abbrev pub PlatesPrint : Type 0
 PlatesPrint = allAgree plates ≡ true
+
+-- 02, A3: the end of data far from the warning, at it and past it, met by READ and by SPACE over blocks and over filemarks; and LOCATE.
+abbrev pub EndOfDataPlates : Type 0
+EndOfDataPlates = allAgree endPlates ≡ true
 
 -- 02, A2: what a fresh drive tells of its speed, and one whose host wants 0.
 abbrev pub SpeedPlates : Type 0

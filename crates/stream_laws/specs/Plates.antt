@@ -1,4 +1,4 @@
--- 01, "Plates that must print alike": those of the packet drive that are proved together as one table.
+-- 01, "Plates that must print alike": those of the packet drive that are proved together as one table; and the plates of 02, A3.
 -- Assumes nothing.
 use Prim.Native.Nat.{ℕ, _≤_}
 use mathlib.Core.Bool.{Bool, true, _&&_}
@@ -28,6 +28,13 @@ readTwo = sent 0x08 1 0 0 2 0 0
 
 abbrev pub afterReadTwo : State
 afterReadTwo = packetStep (image 0) (standing 0) readTwo (replicate 1024 9) .state
+
+-- SPACE 3 blocks, SPACE 2 filemarks
+abbrev pub spaceThree : List ℕ
+spaceThree = sent 0x11 0 0 0 3 0 0
+
+abbrev pub spaceTwoMarks : List ℕ
+spaceTwoMarks = sent 0x11 1 0 0 2 0 0
 
 -- what is sent, and what must come: blocks, P, U and the bytes that 03h would give
 pub record Plate : Type 0 where
@@ -81,4 +88,23 @@ plates =
     ∷ W 0 from (standing 0) send (sent 0x2b 0 0 0 0 0 4) blocks 0 P 3 U 3 sense (senseOf 0x70 0x08 0 0 5)
     -- "Load byte 05h: 24/00"
     ∷ W 0 from (standing 0) send (sent 0x1b 0 0 0 5 0 0) blocks 0 P 0 U 3 sense (senseOf 0x70 0x05 0 0x24 0)
+    ∷ []
+
+-- 02, A3, worked out by hand with C 4 and U 3: W 0; W 1, where U = C - W; W 2, where U = C - W + 1. Byte 2 of the sense is 48h with EOM, 08h without.
+abbrev pub endPlates : List Plate
+endPlates =
+    -- READ 2 at 2: one block, residue 1
+    W 0 from (standing 2) send readTwo blocks 1 P 3 U 3 sense (senseOf 0xf0 0x08 1 0 5)
+    ∷ W 1 from (standing 2) send readTwo blocks 1 P 3 U 3 sense (senseOf 0xf0 0x08 1 0 5)
+    ∷ W 2 from (standing 2) send readTwo blocks 1 P 3 U 3 sense (senseOf 0xf0 0x48 1 0 5)
+    -- SPACE 3 blocks at 2: one passed, residue 2
+    ∷ W 0 from (standing 2) send spaceThree blocks 0 P 3 U 3 sense (senseOf 0xf0 0x08 2 0 5)
+    ∷ W 1 from (standing 2) send spaceThree blocks 0 P 3 U 3 sense (senseOf 0xf0 0x08 2 0 5)
+    ∷ W 2 from (standing 2) send spaceThree blocks 0 P 3 U 3 sense (senseOf 0xf0 0x48 2 0 5)
+    -- SPACE 2 filemarks at 0: one passed, residue 1
+    ∷ W 0 from (standing 0) send spaceTwoMarks blocks 0 P 3 U 3 sense (senseOf 0xf0 0x08 1 0 5)
+    ∷ W 1 from (standing 0) send spaceTwoMarks blocks 0 P 3 U 3 sense (senseOf 0xf0 0x08 1 0 5)
+    ∷ W 2 from (standing 0) send spaceTwoMarks blocks 0 P 3 U 3 sense (senseOf 0xf0 0x48 1 0 5)
+    -- LOCATE 4: not valid, and no EOM past the warning either
+    ∷ W 2 from (standing 0) send (sent 0x2b 0 0 0 0 0 4) blocks 0 P 3 U 3 sense (senseOf 0x70 0x08 0 0 5)
     ∷ []

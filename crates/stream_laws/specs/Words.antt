@@ -23,6 +23,7 @@ use Rattle.packet_state.specs.States.{atPlace, withSense}
 use Rattle.packet_parts.specs.Answers.{Left, goodStatus, checkCondition}
 use Rattle.packet_laws.specs.Words.{numberOf, statusOf, blocksOf, bytesOf, gives, Begins}
 use Rattle.stream_parts.specs.Requests.{requestOf}
+use Rattle.stream_parts.specs.Warning.{pastWarning}
 use Rattle.stream.specs.Packet.{streamDevice, packetStep}
 
 -- ---- the work
@@ -88,8 +89,9 @@ pub data ReadWay (s : List ℕ) (p n blocks : ℕ) : ℕ → Sense → ℕ → T
   met-filemark : blocks < n → IsElement s (p + blocks) Filemark → ReadWay s p n blocks checkCondition (filemarkDetected (n - blocks)) (p + blocks + 1)
   -- "Unreadable: P + 1, stop, 3/11/00."
   met-bad-block : blocks < n → IsElement s (p + blocks) Unreadable → ReadWay s p n blocks checkCondition (unreadableBlock (n - blocks)) (p + blocks + 1)
-  -- "P = U: stop, 8/00/05, no EOM."
-  met-end : blocks < n → p + blocks ≡ fieldsOf s .recorded → ReadWay s p n blocks checkCondition (endOfData (n - blocks)) (p + blocks)
+  -- "P = U: stop, 8/00/05"; 02, A3: "carries EOM when U > C - W"
+  met-end : blocks < n → p + blocks ≡ fieldsOf s .recorded
+      → ReadWay s p n blocks checkCondition (endOfData (pastWarning (fieldsOf s) (fieldsOf s .recorded)) (n - blocks)) (p + blocks)
 
 abbrev pub ReadEnds : List ℕ → ℕ → ℕ → Left State → Type 0
 ReadEnds s p n x = ReadWay s p n (blocksOf x) (statusOf x) (x .state .sense) (x .state .position)

@@ -5,6 +5,6 @@ use mathlib.Core.Bool.{Bool}
 use Rattle.numbers.specs.Choice.{_<ᵇ_}
 use Rattle.image.specs.declared.header.Header.{Header}
 
--- 0Ah and 34h: "P > C - W"
+-- 0Ah and 34h: "P > C - W"; 02, A3: "U > C - W"
 abbrev pub pastWarning : Header → ℕ → Bool
 pastWarning h place = h .capacity - h .warning <ᵇ place

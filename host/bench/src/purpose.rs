@@ -7,11 +7,18 @@ use tapecard::packet::CHECK_CONDITION;
 
 const SPEEDS: [u16; 5] = [0, 62, 125, 250, 500];
 
+/// The flags of a sense in the record's byte 11.
+const VALID: u8 = 1;
+const EOM: u8 = 2;
+const FILEMARK: u8 = 4;
+
 struct Header {
     block_size: usize,
     recorded: usize,
     kinds_at: usize,
     blocks_at: usize,
+    /// U > C - W.
+    past_warning: bool,
 }
 
 /// The call of the interface, for READ.
@@ -38,7 +45,7 @@ pub fn packet(
     }
     if let Some(sense) = before_the_work(record, packet) {
         record[5] = 0;
-        end(record, sense, false, 0);
+        end(record, sense, 0, 0);
         answer[1] = CHECK_CONDITION;
         return;
     }
@@ -48,7 +55,7 @@ pub fn packet(
         return;
     }
     let run = copy_blocks(image, &header, position, count, data);
-    finish(record, &run, count);
+    finish(record, &header, &run, count);
     answer[1] = if run.stop.is_some() {
         CHECK_CONDITION
     } else {
@@ -111,17 +118,29 @@ fn copy_blocks(image: &[u8], header: &Header, from: usize, count: usize, data: &
     run
 }
 
-fn finish(record: &mut [u8; 16], run: &Run, count: usize) {
+fn finish(record: &mut [u8; 16], header: &Header, run: &Run, count: usize) {
     record[0..4].copy_from_slice(&(run.position as u32).to_be_bytes());
     match run.stop {
-        Some(sense) => end(record, sense, true, count - run.copied),
-        None => end(record, triple::NOTHING, false, 0),
+        Some(sense) => {
+            let flags = VALID | flag_beside(sense, header);
+            end(record, sense, flags, count - run.copied);
+        }
+        None => end(record, triple::NOTHING, 0, 0),
     }
 }
 
-fn end(record: &mut [u8; 16], sense: Triple, valid: bool, residue: usize) {
+/// The flag that a stop has beside [`VALID`]. 02, A3: "So 8/00/05 on READ and SPACE carries EOM when U > C - W."
+fn flag_beside(stop: Triple, header: &Header) -> u8 {
+    match stop {
+        triple::FILEMARK => FILEMARK,
+        triple::END_OF_DATA if header.past_warning => EOM,
+        _ => 0,
+    }
+}
+
+fn end(record: &mut [u8; 16], sense: Triple, flags: u8, residue: usize) {
     record[8..11].copy_from_slice(&sense);
-    record[11] = u8::from(valid) | u8::from(sense == triple::FILEMARK) << 2;
+    record[11] = flags;
     record[12..16].copy_from_slice(&(residue as u32).to_be_bytes());
 }
 
@@ -130,18 +149,21 @@ fn read_header(image: &[u8]) -> Option<Header> {
     if image.len() < 32 || word(image, 0) != 32 {
         return None;
     }
+    let capacity = long(image, 4);
+    let early_warning = usize::from(word(image, 22));
+    let recorded = long(image, 8);
     let header = Header {
         block_size: word(image, 2).into(),
-        recorded: long(image, 8),
+        recorded,
         kinds_at: long(image, 12),
         blocks_at: long(image, 16),
+        past_warning: recorded + early_warning > capacity,
     };
-    let capacity = long(image, 4);
     let ranges = (header.block_size == 512 || header.block_size == 1024)
         && (1..=65_535).contains(&capacity)
-        && header.recorded <= capacity
+        && recorded <= capacity
         && image[20] <= 1
-        && usize::from(word(image, 22)) <= capacity
+        && early_warning <= capacity
         && image[24..32].iter().all(|b| *b == 0);
     let places = header.kinds_at >= 32
         && header.kinds_at + capacity <= header.blocks_at

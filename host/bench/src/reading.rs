@@ -6,7 +6,7 @@ use std::time::{Duration, Instant};
 use tapecard::raw;
 
 use crate::purpose;
-use crate::tape::{self, BLOCK_SIZE, BLOCKS, READ, ROOM};
+use crate::tape::{self, BLOCK_SIZE, BLOCKS, EARLY_WARNING_AT, READ, ROOM};
 
 const ROUNDS: usize = 5;
 const READS: usize = 5000;
@@ -125,14 +125,25 @@ fn record_at_the_beginning(image: &mut [u8]) -> [u8; 16] {
     record
 }
 
-/// Both give the same record, answer and bytes, and these are the tape's.
+/// Both give the same record, answer and bytes, and these are the tape's. Both end the next READ alike too, at the end of data before
+/// and past early warning.
 fn check_alike(start: &[u8; 16], image: &mut [u8]) {
-    let run = |call: Call, image: &mut [u8]| {
+    let (behind, data) = read_by_both(start, image);
+    assert_eq!(data, image[image.len() - ROOM..], "the tape's bytes");
+    for early_warning in [0, 1] {
+        let mut cartridge = image.to_vec();
+        cartridge[EARLY_WARNING_AT] = early_warning;
+        read_by_both(&behind, &mut cartridge);
+    }
+}
+
+/// The record and the bytes that a READ from this record gives.
+fn read_by_both(start: &[u8; 16], image: &mut [u8]) -> ([u8; 16], Vec<u8>) {
+    let [engine, rust] = [raw::packet as Call, by_purpose].map(|call| {
         let (mut record, mut answer, mut data) = (*start, [0; 16], vec![0; ROOM]);
         call(&mut record, image, &READ, &mut data, &mut answer);
         (record, answer, data)
-    };
-    let engine = run(raw::packet, image);
-    assert_eq!(engine, run(by_purpose, image), "engine and Rust agree");
-    assert_eq!(engine.2, image[image.len() - ROOM..], "the tape's bytes");
+    });
+    assert_eq!(engine, rust, "engine and Rust agree");
+    (engine.0, engine.2)
 }

@@ -9,6 +9,9 @@ pub const ROOM: usize = BLOCK_SIZE * BLOCKS;
 /// READ of 64 blocks in fixed blocks.
 pub const READ: [u8; 12] = [opcode::READ, 1, 0, 0, BLOCKS as u8, 0, 0, 0, 0, 0, 0, 0];
 
+/// The low byte of the early warning, 0 on the tape that is measured.
+pub const EARLY_WARNING_AT: usize = 23;
+
 const HEADER: usize = 32;
 
 /// A tape of 64 recorded data blocks, each byte set by its place.

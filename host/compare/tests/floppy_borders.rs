@@ -1,12 +1,14 @@
 //! The floppy tape device at its borders: every header and record rule, buffer length, opcode, field and list, a small world in full,
 //! the largest images.
 
+use std::collections::BTreeSet;
+
 use compare::bytes::{long_at, put_long, put_word};
 use compare::floppy_sessions::{FAR_ABOVE, Factors, put_factors};
 use compare::{Difference, FloppyBench, Random, Shape, agree, say};
 use model::Bug;
 use model::packet::Ending;
-use tapecard::bytes::{length, opcode, page};
+use tapecard::bytes::{length, opcode, page, triple};
 
 type Outcome = Result<(), Box<Difference>>;
 
@@ -268,30 +270,47 @@ fn every_opcode_and_field_byte() {
 #[test]
 fn a_small_world_in_full() {
     let mut bench = FloppyBench::new(Bug::None, 0);
-    let calls = moving_calls();
-    let products: [(u32, Factors); 6] = [
-        (0, (0, 9, 9)),
-        (1, (1, 1, 1)),
-        (2, (2, 1, 1)),
-        (2, (1, 1, 2)),
-        (3, (1, 3, 1)),
-        (3, (3, 1, 1)),
-    ];
-    for kinds in 0..27 {
-        for (product, factors) in products {
-            let image = small_image(kinds, product as u16);
-            for position in 0..=product {
-                for (packet, data) in &calls {
-                    bench.begin(&record_at(position, factors), &image);
-                    agree(bench.send(packet, data).map(|_| ()));
-                }
-            }
+    for warning in 0..=3 {
+        for (product, factors) in [
+            (0, (0, 9, 9)),
+            (1, (1, 1, 1)),
+            (2, (2, 1, 1)),
+            (2, (1, 1, 2)),
+            (3, (1, 3, 1)),
+            (3, (3, 1, 1)),
+        ] {
+            let flags = agree(small_world(&mut bench, warning, product, factors));
+            let valid = BTreeSet::from([1]);
+            assert_eq!(flags, valid, "no EOM: \"W plays no part\" (02, A1)");
         }
     }
     say(&format!(
         "small world of the floppy device: {} calls compared",
         bench.seen.calls
     ));
+}
+
+/// Every kind, P and packet, with this W and product; the flags that the engine's record had at the end of data.
+fn small_world(
+    bench: &mut FloppyBench,
+    warning: u16,
+    product: u32,
+    factors: Factors,
+) -> Result<BTreeSet<u8>, Box<Difference>> {
+    let calls = moving_calls();
+    let mut flags = BTreeSet::new();
+    for kinds in 0..27 {
+        let image = small_image(kinds, warning);
+        for position in 0..=product {
+            for (packet, data) in &calls {
+                bench.begin(&record_at(position, factors), &image);
+                bench.send(packet, data)?;
+                let met = bench.record()[8..11] == triple::END_OF_DATA;
+                flags.extend(met.then(|| bench.record()[11]));
+            }
+        }
+    }
+    Ok(flags)
 }
 
 /// Three elements, whose early warning must not matter.

@@ -1,11 +1,13 @@
 //! The packet drive at its borders: every header rule, buffer length, opcode and field, a small world in full, the largest images.
 
+use std::collections::BTreeSet;
+
 use compare::bytes::{put_long, put_word};
 use compare::packet_sessions::put_count;
 use compare::{Difference, PacketBench, Random, Shape, agree, say};
 use model::Bug;
 use model::packet::Ending;
-use tapecard::bytes::{opcode, page};
+use tapecard::bytes::{opcode, page, space, triple};
 
 type Outcome = Result<(), Box<Difference>>;
 
@@ -273,22 +275,53 @@ fn every_opcode_and_field_byte() {
 #[test]
 fn a_small_world_in_full() {
     let mut bench = PacketBench::new(Bug::None, 0);
-    let packets = moving_packets();
-    let data = [0x42; 6 * 512];
-    for kinds in 0..27 {
-        for recorded in 0..=3 {
-            for warning in 0..=3 {
-                let image = small_image(kinds, recorded, warning);
-                for position in 0..=recorded {
-                    for packet in &packets {
-                        bench.begin(&record_at(position), &image);
-                        agree(bench.send(packet, &data).map(|_| ()));
-                    }
-                }
-            }
+    for recorded in 0..=3 {
+        for warning in 0..=3 {
+            let met = agree(small_world(&mut bench, recorded, warning));
+            let eom = recorded > 3 - u32::from(warning);
+            assert_eq!(met, ends_of_data(eom), "U {recorded}, W {warning}");
         }
     }
     say(&format!("small world: {} calls compared", bench.seen.calls));
+}
+
+/// The packets that met the end of data, by their first two bytes, with the EOM that the engine's record then had.
+type EndsOfData = BTreeSet<(u8, u8, bool)>;
+
+/// 02, A3: "So 8/00/05 on READ and SPACE carries EOM when U > C - W."; LOCATE's never does.
+fn ends_of_data(eom: bool) -> EndsOfData {
+    BTreeSet::from([
+        (opcode::READ, 1, eom),
+        (opcode::SPACE, space::BLOCKS, eom),
+        (opcode::SPACE, space::FILEMARKS, eom),
+        (opcode::LOCATE, 0, false),
+    ])
+}
+
+/// Every kind, P and packet, with this U and W.
+fn small_world(
+    bench: &mut PacketBench,
+    recorded: u32,
+    warning: u16,
+) -> Result<EndsOfData, Box<Difference>> {
+    let packets = moving_packets();
+    let mut met = BTreeSet::new();
+    for kinds in 0..27 {
+        let image = small_image(kinds, recorded, warning);
+        for position in 0..=recorded {
+            for packet in &packets {
+                bench.begin(&record_at(position), &image);
+                bench.send(packet, &[0x42; 6 * 512])?;
+                met.extend(end_of_data_met(bench, packet));
+            }
+        }
+    }
+    Ok(met)
+}
+
+fn end_of_data_met(bench: &PacketBench, packet: &[u8; 12]) -> Option<(u8, u8, bool)> {
+    let met = bench.record()[8..11] == triple::END_OF_DATA;
+    met.then(|| (packet[0], packet[1], bench.record()[11] & 2 != 0))
 }
 
 fn small_image(kinds: u8, recorded: u32, warning: u16) -> Vec<u8> {
@@ -372,6 +405,42 @@ fn refused_by_3(
     }
     bench.begin(record, image);
     bench.change()
+}
+
+/// C 65,535: the border of early warning where W needs both its bytes.
+#[test]
+fn the_largest_early_warnings() {
+    let mut bench = PacketBench::new(Bug::None, 0);
+    let image = shape(512, 65_535, 0).image(&mut Random::new(10));
+    bench.begin(&record_at(0), &image);
+    for (recorded, warning, eom) in [
+        (65_535, 0, false),
+        (65_535 - 256, 256, false),
+        (65_535 - 255, 256, true),
+        (0, 65_535, false),
+        (1, 65_535, true),
+    ] {
+        bench.edit_image(|image| {
+            put_long(image, 8, recorded);
+            put_word(image, 22, warning);
+        });
+        let mut met = BTreeSet::new();
+        for packet in [
+            plain(opcode::READ, 1, 1),
+            plain(opcode::SPACE, space::BLOCKS, 1),
+            plain(opcode::SPACE, space::FILEMARKS, 1),
+            locate(recorded + 1),
+        ] {
+            bench.set_record(&record_at(recorded));
+            agree(bench.send(&packet, &[0x42; 512]).map(|_| ()));
+            met.extend(end_of_data_met(&bench, &packet));
+        }
+        assert_eq!(met, ends_of_data(eom), "U {recorded}, W {warning}");
+    }
+    say(&format!(
+        "largest early warnings: {} calls compared",
+        bench.seen.calls
+    ));
 }
 
 /// C 65,535: passed over and filled to the end; with the smaller blocks written and read as a whole.

@@ -7,7 +7,7 @@ use compare::packet_sessions::put_count;
 use compare::pulse_sessions;
 use compare::{FloppyBench, ImageBench, PacketBench, PulseBench, PulseCall, Random, Shape, agree};
 use model::Bug;
-use tapecard::bytes::{opcode, page};
+use tapecard::bytes::{opcode, page, space};
 
 /// "Image C 4, B 512, W 0, kinds 1 2 1, U 3, attention cleared".
 fn packet_bench(position: u32, warning: u16) -> PacketBench {
@@ -42,6 +42,10 @@ fn send<const RECORD: usize>(bench: &mut ImageBench<RECORD>, opcode: u8, byte_1:
 
 fn send_packet<const RECORD: usize>(bench: &mut ImageBench<RECORD>, packet: &[u8]) {
     agree(bench.send(packet, &[0x55; 1024]));
+}
+
+fn locate(target: u8) -> [u8; 12] {
+    [opcode::LOCATE, 0, 0, 0, 0, 0, target, 0, 0, 0, 0, 0]
 }
 
 fn sense_bytes<const RECORD: usize>(bench: &mut ImageBench<RECORD>) -> Vec<u8> {
@@ -132,15 +136,44 @@ fn three_spaces() {
 #[test]
 fn locate_and_load() {
     let mut bench = packet_bench(0, 0);
-    send_packet(
-        &mut bench,
-        &[opcode::LOCATE, 0, 0, 0, 0, 0, 4, 0, 0, 0, 0, 0],
-    );
+    send_packet(&mut bench, &locate(4));
     assert_eq!((position(&bench), triple(&bench)), (3, [8, 0, 5]));
 
     let mut bench = packet_bench(0, 0);
     send(&mut bench, opcode::LOAD_UNLOAD, 0, 5);
     assert_eq!(triple(&bench), [5, 0x24, 0]);
+}
+
+/// 02, A3: "So 8/00/05 on READ and SPACE carries EOM when U > C - W. The cases with W 0 stay."
+#[test]
+fn the_end_of_data_near_the_end_of_tape() {
+    for (warning, byte_2) in [(0, 0x08), (1, 0x08), (2, 0x48)] {
+        for (from, opcode, byte_1, count, residue) in [
+            (2, opcode::READ, 1, 2, 1),
+            (2, opcode::SPACE, space::BLOCKS, 3, 2),
+            (0, opcode::SPACE, space::FILEMARKS, 2, 1),
+        ] {
+            let mut bench = packet_bench(from, warning);
+            send(&mut bench, opcode, byte_1, count);
+            assert_eq!((status(&bench), position(&bench)), (2, 3));
+            let plate = [
+                0xF0, 0, byte_2, 0, 0, 0, residue, 0x0C, 0, 0, 0, 0, 0, 5, 0, 0, 0, 0, 0, 0,
+            ];
+            assert_eq!(sense_bytes(&mut bench), plate);
+        }
+    }
+}
+
+/// 02, A3, names READ and SPACE: a LOCATE past U shows no EOM, with early warning passed too.
+#[test]
+fn a_locate_past_early_warning() {
+    let mut bench = packet_bench(0, 2);
+    send_packet(&mut bench, &locate(4));
+    assert_eq!((status(&bench), position(&bench)), (2, 3));
+    let plate = [
+        0x70, 0, 0x08, 0, 0, 0, 0, 0x0C, 0, 0, 0, 0, 0, 5, 0, 0, 0, 0, 0, 0,
+    ];
+    assert_eq!(sense_bytes(&mut bench), plate);
 }
 
 #[test]
@@ -202,7 +235,10 @@ fn a_floppy_read_is_one_short_at_an_unreadable_block() {
     assert_eq!((residue(&bench), triple(&bench)), (0, [3, 0x11, 0]));
     send(&mut bench, opcode::READ, 1, 2);
     assert_eq!((blocks(&bench), position(&bench)), (0, 4));
-    assert_eq!((residue(&bench), triple(&bench)), (2, [8, 0, 5]));
+    let plate = [
+        0xF0, 0, 8, 0, 0, 0, 2, 0x0C, 0, 0, 0, 0, 0, 5, 0, 0, 0, 0, 0, 0,
+    ];
+    assert_eq!(sense_bytes(&mut bench), plate, "W plays no part (02, A1)");
 }
 
 #[test]
@@ -228,10 +264,9 @@ fn a_floppy_list_and_a_load() {
     assert_eq!((status(&bench), position(&bench)), (0, 0));
     let parameters = [22, 0x6C, 1, 0x80, 0, 1, 0, 2, 0, 0, 0, 0, 0, 0, 0, 0];
     assert_eq!(bench.record()[16..], parameters);
-    let target = |block| [opcode::LOCATE, 0, 0, 0, 0, 0, block, 0, 0, 0, 0, 0];
-    send_packet(&mut bench, &target(1));
+    send_packet(&mut bench, &locate(1));
     assert_eq!((status(&bench), position(&bench)), (0, 1));
-    send_packet(&mut bench, &target(2));
+    send_packet(&mut bench, &locate(2));
     assert_eq!((triple(&bench), position(&bench)), ([5, 0x24, 0], 1));
     send(&mut bench, opcode::LOAD_UNLOAD, 0, 1);
     let reset = [0, 0, 1, 0, 0, 4, 0, 1, 0, 0, 0, 0, 0, 0, 0, 0];

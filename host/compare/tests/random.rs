@@ -9,7 +9,7 @@ use model::Bug;
 use model::floppy;
 use model::packet::{Ending, OPCODES};
 use model::pulse::{Branch, ERRORS};
-use tapecard::bytes::{opcode, page, train, triple};
+use tapecard::bytes::{opcode, page, space, train, triple};
 
 /// Calls for each drive where the environment names no other number.
 const USUAL_CALLS: u64 = 600_000;
@@ -113,6 +113,24 @@ fn long_pulse_session() {
 fn packets_went_everywhere(seen: &PacketSeen) {
     assert_eq!(seen.triples, triples());
     ended_every_way(seen, &wanted_endings());
+    met_the_end_of_data_often(seen);
+}
+
+/// Before and past early warning alike, each once in a thousand calls: the few that damaged headers bring about would not do.
+fn met_the_end_of_data_often(seen: &PacketSeen) {
+    for (opcode, variant) in [
+        (opcode::READ, 0),
+        (opcode::SPACE, space::BLOCKS),
+        (opcode::SPACE, space::FILEMARKS),
+    ] {
+        for ending in [Ending::AtEndOfData, Ending::AtEndOfDataPastWarning] {
+            let times = seen.endings.get(&(opcode, variant, ending));
+            assert!(
+                times.is_some_and(|times| times * 1000 >= seen.calls),
+                "opcode {opcode:02X}h, variant {variant}, ended with {ending:?} {times:?} times"
+            );
+        }
+    }
 }
 
 /// Refused by each number, every first byte looked at, and each of these endings met.
@@ -149,7 +167,7 @@ fn triples() -> BTreeSet<[u8; 3]> {
 }
 
 /// The endings that each command has of its own, by opcode and variant.
-const OWN_ENDINGS: [(u8, u8, &[Ending]); 27] = {
+const OWN_ENDINGS: [(u8, u8, &[Ending]); 29] = {
     use Ending::*;
     use opcode::*;
     [
@@ -157,14 +175,16 @@ const OWN_ENDINGS: [(u8, u8, &[Ending]); 27] = {
         (REWIND, 0, &[Good, NotLoaded]),
         (REQUEST_SENSE, 0, &[Good, Refused(4)]),
         (READ, 0, &[BadField, NotLoaded, Refused(4), Good]),
-        (READ, 0, &[AtFilemark, AtUnreadable, AtEndOfData]),
+        (READ, 0, &[AtFilemark, AtUnreadable]),
+        (READ, 0, &[AtEndOfData, AtEndOfDataPastWarning]),
         (WRITE, 0, &[BadField, NotLoaded, Protected, Refused(4)]),
         (WRITE, 0, &[Good, CartridgeFull, EarlyWarning]),
         (WRITE_FILEMARK, 0, &[NotLoaded, Protected]),
         (WRITE_FILEMARK, 0, &[Good, CartridgeFull, EarlyWarning]),
-        (SPACE, 0, &[Good, NotLoaded, AtFilemark, AtEndOfData]),
+        (SPACE, 0, &[Good, NotLoaded, AtFilemark]),
+        (SPACE, 0, &[AtEndOfData, AtEndOfDataPastWarning]),
         (SPACE, 8, &[Good, NotLoaded, AtFilemark, AtBeginning]),
-        (SPACE, 1, &[Good, AtEndOfData]),
+        (SPACE, 1, &[Good, AtEndOfData, AtEndOfDataPastWarning]),
         (SPACE, 8 + 1, &[Good, AtBeginning]),
         (SPACE, 3, &[Good, NotLoaded]),
         (SPACE, 8 + 3, &[Good]),

@@ -29,8 +29,16 @@ pub enum Bug {
     InquiryKeepsSense,
     /// Early warning is told at its border too.
     WarningAtBorder,
-    /// The end of data in a READ shows EOM.
-    EndOfDataShowsEom,
+    /// The end of data never shows EOM.
+    EndOfDataHidesEom,
+    /// The end of data shows EOM at U = C - W too.
+    EndOfDataShowsEomAtBorder,
+    /// The end of data shows EOM wherever W is not 0.
+    EndOfDataShowsEomForAnyWarning,
+    /// The end of data shows EOM in a READ, not in a SPACE.
+    SpaceHidesEom,
+    /// A LOCATE beyond the end of data shows EOM where U > C - W.
+    LocateShowsEom,
     /// SPACE back over filemarks ends on the end side.
     SpaceBackEndsBeyond,
     /// A LOCATE beyond the end of data has a valid residue.
@@ -63,6 +71,8 @@ pub enum Bug {
     FloppyWriteSetsRecorded,
     /// A WRITE tells early warning.
     FloppyWarnsEarly,
+    /// The end of data shows EOM where U > C - W.
+    FloppyEndShowsEom,
     /// Transfers stop at the capacity.
     TransfersEndAtCapacity,
     /// The count is taken from three bytes.
@@ -145,7 +155,7 @@ pub enum Bug {
 
 impl Bug {
     /// Mistakes in the packet drive.
-    pub const PACKET: [Bug; 22] = [
+    pub const PACKET: [Bug; 26] = [
         Bug::FreshIsAutomatic,
         Bug::ChangeResetsSpeed,
         Bug::ResidueCountsFilemark,
@@ -156,7 +166,11 @@ impl Bug {
         Bug::SenseClearsAttention,
         Bug::InquiryKeepsSense,
         Bug::WarningAtBorder,
-        Bug::EndOfDataShowsEom,
+        Bug::EndOfDataHidesEom,
+        Bug::EndOfDataShowsEomAtBorder,
+        Bug::EndOfDataShowsEomForAnyWarning,
+        Bug::SpaceHidesEom,
+        Bug::LocateShowsEom,
         Bug::SpaceBackEndsBeyond,
         Bug::LocateBeyondIsValid,
         Bug::ReadClearsRest,
@@ -171,13 +185,14 @@ impl Bug {
     ];
 
     /// Mistakes in the floppy tape device.
-    pub const FLOPPY: [Bug; 24] = [
+    pub const FLOPPY: [Bug; 25] = [
         Bug::FreshIsAutomatic,
         Bug::ChangeResetsSpeed,
         Bug::BlockInErrorInResidue,
         Bug::KindTwoIsFilemark,
         Bug::FloppyWriteSetsRecorded,
         Bug::FloppyWarnsEarly,
+        Bug::FloppyEndShowsEom,
         Bug::TransfersEndAtCapacity,
         Bug::CountOfThreeBytes,
         Bug::LocateTakesProduct,

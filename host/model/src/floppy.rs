@@ -416,7 +416,7 @@ impl Drive<'_> {
         while copied < self.count() {
             let residue = self.count() - copied;
             if self.at_end(header) {
-                reply = at_end_of_data(residue);
+                reply = self.met_end_of_data(header, residue);
                 break;
             }
             let element = self.state.position;
@@ -432,6 +432,14 @@ impl Drive<'_> {
             copied += 1;
         }
         reply.with_blocks(copied).with_bytes(copied * size)
+    }
+
+    // "W plays no part" (02, A1), so A3's EOM is the stream device's alone.
+    fn met_end_of_data(&self, header: &Header, residue: u32) -> Reply {
+        if self.bug == Bug::FloppyEndShowsEom && header.recorded > header.warning_border() {
+            return at_end_of_data_past_warning(residue);
+        }
+        at_end_of_data(residue)
     }
 
     fn stopped_at(&self, kind: Kind, residue: u32) -> Reply {
@@ -462,7 +470,7 @@ impl Drive<'_> {
                 header.put_recorded(self.image, self.state.position);
             }
         }
-        let past_warning = self.state.position > header.capacity - header.early_warning;
+        let past_warning = self.state.position > header.warning_border();
         let all_stored = stored >= 1 && reply.ending == Ending::Good;
         if self.bug == Bug::FloppyWarnsEarly && all_stored && past_warning {
             reply = early_warning();

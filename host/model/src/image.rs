@@ -113,6 +113,11 @@ impl Header {
         image[at..at + self.block_size as usize].fill(0);
     }
 
+    // "C - W": beyond it the tape is past early warning.
+    pub(crate) fn warning_border(&self) -> u32 {
+        self.capacity - self.early_warning
+    }
+
     pub(crate) fn put_recorded(&mut self, image: &mut [u8], recorded: u32) {
         self.recorded = recorded;
         put_long(image, RECORDED_AT, recorded);

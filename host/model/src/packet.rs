@@ -287,7 +287,7 @@ impl Drive<'_> {
     }
 
     // "08h READ, count N .. Data: copied, P + 1. Filemark: P + 1, stop, key 0, filemark, 00/01. Unreadable: P + 1, stop, 3/11/00.
-    // P = U: stop, 8/00/05, no EOM. A stop is valid with information N minus blocks copied. N = 0 is GOOD."
+    // P = U: stop, 8/00/05 .. A stop is valid with information N minus blocks copied. N = 0 is GOOD."
     fn read(&mut self, header: &Header) -> Reply {
         let size = header.block_size;
         let mut copied = 0;
@@ -295,8 +295,7 @@ impl Drive<'_> {
         while copied < self.count() {
             let residue = self.count() - copied;
             if self.state.position == header.recorded {
-                reply = at_end_of_data(residue);
-                reply.sense.eom = self.bug == Bug::EndOfDataShowsEom;
+                reply = self.met_end_of_data(header, residue);
                 break;
             }
             let element = self.state.position;
@@ -326,6 +325,27 @@ impl Drive<'_> {
             self.data[(copied * size) as usize..].fill(0);
         }
         reply.with_blocks(copied).with_bytes(copied * size)
+    }
+
+    // 02, A3: "So 8/00/05 on READ and SPACE carries EOM when U > C - W. The cases with W 0 stay."
+    fn met_end_of_data(&self, header: &Header, residue: u32) -> Reply {
+        if self.data_ends_past_warning(header) {
+            at_end_of_data_past_warning(residue)
+        } else {
+            at_end_of_data(residue)
+        }
+    }
+
+    // "U > C - W" (02, A3).
+    fn data_ends_past_warning(&self, header: &Header) -> bool {
+        let border = header.warning_border();
+        match self.bug {
+            Bug::EndOfDataHidesEom => false,
+            Bug::EndOfDataShowsEomAtBorder => header.recorded >= border,
+            Bug::EndOfDataShowsEomForAnyWarning => header.early_warning != 0,
+            Bug::SpaceHidesEom if self.opcode() == SPACE => false,
+            _ => header.recorded > border,
+        }
     }
 
     // "0Ah WRITE, same fields, need and N = 0. At P = C: stop, key D, EOM, 00/02, valid, information the rest. Else bytes and kind 1
@@ -380,7 +400,7 @@ impl Drive<'_> {
 
     // "P > C - W".
     fn past_early_warning(&self, header: &Header) -> bool {
-        let border = header.capacity - header.early_warning;
+        let border = header.warning_border();
         if self.bug == Bug::WarningAtBorder {
             return self.state.position >= border;
         }
@@ -423,7 +443,7 @@ impl Drive<'_> {
             let residue = magnitude - passed;
             let Some(kind) = self.cross_element(header, forward) else {
                 return if forward {
-                    at_end_of_data(residue)
+                    self.met_end_of_data(header, residue)
                 } else {
                     let sense = Sense::of(0, 0, 4).with_eom().with_residue(residue);
                     Reply::ended(Ending::AtBeginning, sense)
@@ -479,13 +499,14 @@ impl Drive<'_> {
         Reply::good()
     }
 
-    // "target in bytes 3-6. Above U: P = U, 8/00/05, not valid. Else P = target."
+    // "target in bytes 3-6. Above U: P = U, 8/00/05, not valid. Else P = target." A3 of 02 names READ and SPACE alone: no EOM here.
     fn locate(&mut self, header: &Header) -> Reply {
         let target = long_at(self.packet, 3);
         if target > header.recorded {
             self.state.position = header.recorded;
             let mut sense = Sense::of(8, 0, 5);
             sense.valid = self.bug == Bug::LocateBeyondIsValid;
+            sense.eom = self.bug == Bug::LocateShowsEom && self.data_ends_past_warning(header);
             return Reply::ended(Ending::LocatedBeyond, sense);
         }
         self.state.position = target;

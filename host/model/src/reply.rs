@@ -22,6 +22,7 @@ pub enum Ending {
     AtFilemark,
     AtUnreadable,
     AtEndOfData,
+    AtEndOfDataPastWarning,
     AtBeginning,
     CartridgeFull,
     EarlyWarning,
@@ -144,6 +145,12 @@ pub fn at_unreadable(residue: u32) -> Reply {
 pub fn at_end_of_data(residue: u32) -> Reply {
     let sense = Sense::of(8, 0, 5).with_residue(residue);
     Reply::ended(Ending::AtEndOfData, sense)
+}
+
+// 02, A3: "So 8/00/05 on READ and SPACE carries EOM when U > C - W."
+pub fn at_end_of_data_past_warning(residue: u32) -> Reply {
+    let sense = at_end_of_data(residue).sense.with_eom();
+    Reply::ended(Ending::AtEndOfDataPastWarning, sense)
 }
 
 // "stop, key D, EOM, 00/02, valid, information the rest."

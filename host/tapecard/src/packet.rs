@@ -30,6 +30,8 @@ pub struct Sense {
     pub asc: u8,
     pub ascq: u8,
     pub filemark: bool,
+    /// Set with early warning (0/00/02), the end of tape (D/00/02) and the beginning (0/00/04), and with the end of data (8/00/05)
+    /// that the stream device's READ and SPACE meet where U > C - W (02, A3).
     pub eom: bool,
     pub valid: bool,
     pub information: u32,

@@ -1,6 +1,6 @@
 //! The packet drive through its typed interface.
 
-use tapecard::bytes::{opcode, page};
+use tapecard::bytes::{opcode, page, space};
 use tapecard::packet::{Answer, Attention, CHECK_CONDITION, GOOD, Record, Sense, packet};
 use tapecard::{Device, Refusal, sense_words};
 
@@ -34,8 +34,12 @@ fn refused_with(number: u8) -> Result<Answer, Refusal> {
     Err(Refusal { number, device })
 }
 
+fn counted(opcode: u8, byte_1: u8, count: u8) -> [u8; 12] {
+    [opcode, byte_1, 0, 0, count, 0, 0, 0, 0, 0, 0, 0]
+}
+
 fn read_2() -> [u8; 12] {
-    [opcode::READ, 1, 0, 0, 2, 0, 0, 0, 0, 0, 0, 0]
+    counted(opcode::READ, 1, 2)
 }
 
 #[test]
@@ -88,6 +92,33 @@ fn two_reads_and_their_sense() {
     assert_eq!(told, "BLANK CHECK: end of data (8/00/05), residue 1");
 }
 
+/// 02, A3: "So 8/00/05 on READ and SPACE carries EOM when U > C - W."
+#[test]
+fn the_end_of_data_near_the_end_of_tape() {
+    for (warning, eom) in [(0, false), (1, false), (2, true)] {
+        let mut image = image();
+        image[23] = warning;
+        let mut record = told_of_the_reset(&mut image);
+        let end = Sense {
+            key: 8,
+            ascq: 5,
+            eom,
+            valid: true,
+            information: 1,
+            ..Sense::default()
+        };
+        for far in [
+            counted(opcode::SPACE, space::FILEMARKS, 2),
+            counted(opcode::SPACE, space::BLOCKS, 1),
+            counted(opcode::READ, 1, 1),
+        ] {
+            let answer = packet(&mut record, &mut image, &far, &mut [0; 512]);
+            assert!(answer.is_ok_and(|answer| !answer.is_good()));
+            assert_eq!((record.position(), record.sense()), (3, end));
+        }
+    }
+}
+
 #[test]
 fn refused_packets_change_nothing() {
     let mut image = image();
@@ -118,7 +149,7 @@ fn a_speed_is_selected() {
     list[12] = page::CODE;
     list[13] = page::LENGTH;
     list[27] = 125;
-    let select = [opcode::MODE_SELECT, 0, 0, 0, 32, 0, 0, 0, 0, 0, 0, 0];
+    let select = counted(opcode::MODE_SELECT, 0, 32);
     let answer = packet(&mut record, &mut image, &select, &mut list).expect("a right list");
     assert_eq!((answer.status, answer.bytes), (GOOD, 32));
     assert!(answer.is_good());

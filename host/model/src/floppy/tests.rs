@@ -225,6 +225,21 @@ fn plate_read_at_the_product_is_the_end_of_data() {
     assert_eq!(bench.sense_bytes(), sense);
 }
 
+/// "W plays no part" (02, A1): A3's EOM is the stream device's alone.
+#[test]
+fn plate_read_at_the_product_shows_no_eom_past_early_warning() {
+    for (product, warning) in [(1, 1), (1, 4), (4, 1), (4, 4)] {
+        let mut bench = Bench::at(product).with_parameters([1, 0, product, 0, 1]);
+        bench.image[23] = warning;
+        assert_eq!(bench.send(&read(2)), told(0, 2, 0, 0));
+        assert_eq!(bench.position(), u32::from(product));
+        let sense = [
+            0xF0, 0, 8, 0, 0, 0, 2, 0x0C, 0, 0, 0, 0, 0, 5, 0, 0, 0, 0, 0, 0,
+        ];
+        assert_eq!(bench.sense_bytes(), sense);
+    }
+}
+
 #[test]
 fn plate_write_at_the_product_is_the_end_of_the_tape() {
     let mut bench = Bench::at(2).with_parameters([1, 0, 3, 0, 1]);

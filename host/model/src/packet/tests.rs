@@ -50,6 +50,11 @@ impl Bench {
         self
     }
 
+    fn with_recorded(mut self, recorded: u32) -> Bench {
+        put_long(&mut self.image, 8, recorded);
+        self
+    }
+
     fn protected(mut self) -> Bench {
         self.image[20] = 1;
         self
@@ -158,6 +163,88 @@ fn plate_then_read_2_stops_at_the_end_of_data() {
     assert_eq!(bench.position(), 3);
     assert_eq!(bench.triple(), [8, 0, 5]);
     assert_eq!(bench.record[11] & 2, 0);
+}
+
+/// The packet ends with 8/00/05 at U, with this byte 2 of REQUEST SENSE's data and this residue.
+fn ends_at_end_of_data(mut bench: Bench, packet: [u8; 12], byte_2: u8, residue: u8) {
+    let told = bench.send(&packet);
+    assert_eq!((told.number, told.status), (0, 2));
+    assert_eq!(bench.position(), bench.recorded());
+    let plate = [
+        0xF0, 0, byte_2, 0, 0, 0, residue, 0x0C, 0, 0, 0, 0, 0, 5, 0, 0, 0, 0, 0, 0,
+    ];
+    assert_eq!(bench.sense_bytes(), plate);
+}
+
+/// READ 2 at 2, SPACE 3 blocks at 2 and SPACE 2 filemarks at 0, with early warning W.
+fn three_ends_of_data(warning: u16, byte_2: u8) {
+    for (position, packet, residue) in [
+        (2, counted(READ, 1, 2), 1),
+        (2, spaced(SPACE_BLOCKS, 3), 2),
+        (0, spaced(SPACE_FILEMARKS, 2), 1),
+    ] {
+        let bench = Bench::at(position).with_warning(warning);
+        assert_eq!(bench.recorded(), 3);
+        ends_at_end_of_data(bench, packet, byte_2, residue);
+    }
+}
+
+/// READ 1, SPACE 1 block and SPACE 1 filemark at P = U, with this U and W.
+fn three_ends_of_data_at(recorded: u32, warning: u16, byte_2: u8) {
+    for packet in [
+        counted(READ, 1, 1),
+        spaced(SPACE_BLOCKS, 1),
+        spaced(SPACE_FILEMARKS, 1),
+    ] {
+        let bench = Bench::at(recorded).with_recorded(recorded);
+        ends_at_end_of_data(bench.with_warning(warning), packet, byte_2, 1);
+    }
+}
+
+/// 02, A3: "The cases with W 0 stay."
+#[test]
+fn plates_the_end_of_data_without_early_warning() {
+    three_ends_of_data(0, 0x08);
+}
+
+/// 02, A3: "carries EOM when U > C - W", and 3 > 4 - 1 is false.
+#[test]
+fn plates_the_end_of_data_at_early_warning() {
+    three_ends_of_data(1, 0x08);
+}
+
+/// 02, A3: "So 8/00/05 on READ and SPACE carries EOM when U > C - W.", and 3 > 4 - 2.
+#[test]
+fn plates_the_end_of_data_past_early_warning() {
+    three_ends_of_data(2, 0x48);
+}
+
+/// 0 > 4 - 4 is false.
+#[test]
+fn plates_the_end_of_data_on_a_blank_tape_that_warns_throughout() {
+    three_ends_of_data_at(0, 4, 0x08);
+}
+
+/// 4 > 4 - 0 is false, and 4 > 4 - 1.
+#[test]
+fn plates_the_end_of_data_on_a_full_tape() {
+    three_ends_of_data_at(4, 0, 0x08);
+    three_ends_of_data_at(4, 1, 0x48);
+}
+
+/// 02, A3, names READ and SPACE; 01: LOCATE's 8/00/05 is "not valid", and code 3 of SPACE is GOOD.
+#[test]
+fn plates_past_early_warning_without_eom() {
+    let mut bench = Bench::at(0).with_warning(2);
+    assert_eq!(bench.send(&located(0, 4)).status, 2);
+    assert_eq!(bench.position(), 3);
+    let plate = [
+        0x70, 0, 0x08, 0, 0, 0, 0, 0x0C, 0, 0, 0, 0, 0, 5, 0, 0, 0, 0, 0, 0,
+    ];
+    assert_eq!(bench.sense_bytes(), plate);
+    let mut bench = Bench::at(0).with_warning(2);
+    assert_eq!(bench.send(&spaced(SPACE_TO_END, 1)).status, 0);
+    assert_eq!((bench.position(), bench.record[11]), (3, 0));
 }
 
 #[test]

@@ -23,6 +23,9 @@ unreadable-block-requires c κs = search needs
 enum-told-4 : tie.Need-enum-told-4
 enum-told-4 c = search needs
 
+is-past-warning-requires : tie.Need-is-past-warning-requires
+is-past-warning-requires c κs = search needs
+
 end-of-data-requires : tie.Need-end-of-data-requires
 end-of-data-requires c κs = search needs
 
@@ -46,7 +49,7 @@ returns-3 c = simp (c .unreadable-block .ensures, c .before .enum-told3 .given .
 
 returns-4 : tie.Need-returns-4
 unfolding endingOf
-returns-4 c = simp (c .end-of-data .ensures, c .before .enum-told4 .given .1)
+returns-4 c = simp (c .end-of-data .ensures, c .before .is-past-warning .ensures, c .before .before .enum-told4 .given .1)
 
 returns-5 : tie.Need-returns-5
 unfolding endingOf
@@ -62,6 +65,7 @@ ending-of-spec =
     enum-told-3
     unreadable-block-requires
     enum-told-4
+    is-past-warning-requires
     end-of-data-requires
     enum-told-5
     beginning-of-tape-requires

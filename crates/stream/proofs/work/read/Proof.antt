@@ -11,7 +11,7 @@ read-blocks-requires : tie.Need-read-blocks-requires
 read-blocks-requires c κs = let g = sound _ _ (c .before .before .before .pre .0) in omega arith
 
 ending-of-requires : tie.Need-ending-of-requires
-ending-of-requires c κs = search needs
+ending-of-requires c κs = let g = sound _ _ (c .before .before .before .before .before .before .pre .0) in omega arith
 
 end-moved-requires : tie.Need-end-moved-requires
 end-moved-requires c κs =

@@ -1,5 +1,7 @@
 -- `work::space` meets its contract.
 -- Assumes nothing.
+use native.Mathlib.Omega.{arith}
+use Rattle.image.proofs.HeaderLaws.{sound}
 use Rattle.stream.specs.Work.{spaceWork}
 use borrow.Author.Needs.{needs}
 use Rattle.stream.proofs.work.space.Statement.{statement}
@@ -19,7 +21,7 @@ space-run-requires : tie.Need-space-run-requires
 space-run-requires c κs = search needs
 
 ending-of-requires : tie.Need-ending-of-requires
-ending-of-requires c κs = search needs
+ending-of-requires c κs = let g = sound _ _ (c .before .before .before .pre .0) in omega arith
 
 stand-at-requires-2 : tie.Need-stand-at-requires-2
 stand-at-requires-2 c κs = search needs
