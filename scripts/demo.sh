@@ -1,6 +1,6 @@
 #!/usr/bin/env bash
-# A walk through the drive card in under a minute: glyphs on a tape and back, a READ that stops, a speed set, a cut packet, a glyph
-# redrawn in place, a lost drive.
+# A walk through the drive card in under a minute: glyphs on a tape and back, a READ that stops, one near the end of tape, a speed
+# set, a cut packet, a glyph redrawn in place, a lost drive.
 # Run by `make demo`, after the archive and the command are built. TAPECARD may name another build of the command.
 set -euo pipefail
 cd "$(dirname "$0")/.."
@@ -62,6 +62,15 @@ echo "both files are the same, byte for byte"
 
 heading "A READ of 40 blocks stops at the first script's filemark and says how many are missing"
 run_to_check_condition packet scripts.img --out blocks.bin 08 01 00 00 28 00 00 00 00 00 00 00
+
+heading "A READ that meets the end of data past the early warning says that the end of tape is near"
+run new short.img --blocks 12 --block-size 512 --early-warning 4
+run put short.img thai.glyphs
+printf '\n$ tapecard packet short.img --any-answer\n'
+tapecard packet short.img --any-answer <<'LINES'
+11 03 00 00 00 00 00 00 00 00 00 00  # SPACE to the end of data
+08 01 00 00 01 00 00 00 00 00 00 00  # READ one block there
+LINES
 
 heading "A drive just switched on has speed 250, and a workstation that wants the automatic one, 0, sets it"
 { head -c 12 /dev/zero; printf '\x2A\x12'; head -c 18 /dev/zero; } >automatic.list # page 2Ah after its header, speed 0

@@ -117,6 +117,42 @@ fn past_the_early_warning_files_are_put_with_a_word() {
     );
 }
 
+/// The end of data shows EOM on such a tape (02, A3): the commands go on as on any other.
+#[test]
+fn files_past_the_early_warning_are_listed_got_and_shown() {
+    let place = Place::with_image(16, &["--early-warning", "13"]);
+    place.write("f", [1; 600]);
+    place.write("g", [2; 600]);
+    assert_eq!(place.run(&["put", "t.img", "f", "g"]).status, 0);
+    // A WRITE behind file 2: file 3 has no filemark, so that it ends with the data.
+    let open_end = b"11 03 00 00 00 00 00 00 00 00 00 00\n0a01 00 00 01 00 00 00 00 00 00 00\n";
+    place.run_with(&["packet", "t.img", "--data", "g"], open_end);
+    place.run(&["list", "t.img"]).is_good(
+        "\
+number  name      bytes  blocks  position
+     1  f           600       3         0
+     2  g           600       3         4
+     3  -             -       1         8  no filemark
+",
+    );
+    for (number, length) in [("2", 600), ("3", 512)] {
+        let said = place.run(&["get", "t.img", number, "-o", "back", "--force"]);
+        let got = format!("got back: {length} bytes\n");
+        assert_eq!((said.status, said.out), (0, got), "{}", said.err);
+        assert_eq!(place.read("back"), place.read("g")[..length]);
+    }
+    place.run(&["info", "t.img"]).has_lines(&[
+        "  early warning  in the last 13 elements, from place 3",
+        "  recorded       9 elements, 7 blank",
+        "  of these       7 data blocks, 2 filemarks, 0 unreadable",
+        "  [###|###|#.......]",
+    ]);
+    place.run(&["put", "t.img", "f"]).has_lines(&[
+        "closed file 3, which had no filemark",
+        "put f as file 4: 600 bytes in 3 blocks at place 10",
+    ]);
+}
+
 #[test]
 fn a_protected_cartridge_is_not_written() {
     let place = Place::with_image(8, &["--protect"]);

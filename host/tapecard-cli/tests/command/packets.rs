@@ -57,6 +57,58 @@ fn two_reads_with_a_record_kept_between() {
     assert_eq!(place.read("o").len(), 512);
 }
 
+/// What `packet` says of a tape of four elements with this early warning: three blocks are written, and behind them a READ, SPACE
+/// over a block and over a filemark, and a LOCATE meet the end of data.
+fn behind_three_blocks(warning: &str) -> String {
+    let place = Place::with_image(4, &["--early-warning", warning]);
+    place.write("d", [7; 3 * 512]);
+    let script = "\
+0a 01 00 00 03 00 00 00 00 00 00 00
+08 01 00 00 01 00 00 00 00 00 00 00
+11 00 00 00 01 00 00 00 00 00 00 00
+11 01 00 00 01 00 00 00 00 00 00 00
+2b 00 00 00 00 00 04 00 00 00 00 00
+";
+    let said = place.run_with(&["packet", "t.img", "--data", "d"], script.as_bytes());
+    assert_eq!((said.status, said.err.as_str()), (3, ""), "{}", said.out);
+    said.out
+}
+
+/// The lines that tell of the sense, in words and in bytes.
+fn senses(said: &str) -> Vec<&str> {
+    let told = |line: &&str| line.starts_with("  sense     ") || line.starts_with("            ");
+    said.lines().filter(told).collect()
+}
+
+/// 02, A3: "So 8/00/05 on READ and SPACE carries EOM when U > C - W."; U is 3 here and C is 4.
+#[test]
+fn the_end_of_data_near_the_end_of_tape_is_told_in_words() {
+    let warned = [
+        "  sense     NO SENSE: early warning passed (0/00/02), residue 0, EOM",
+        "            F0 00 40 00 00 00 00 0C 00 00 00 00 00 02 00 00 00 00 00 00",
+    ];
+    let near = [
+        "  sense     BLANK CHECK: end of data (8/00/05), residue 1, EOM: near the end of tape",
+        "            F0 00 48 00 00 00 01 0C 00 00 00 00 00 05 00 00 00 00 00 00",
+    ];
+    let written = [
+        "  sense     NO SENSE: nothing to report (0/00/00)",
+        "            70 00 00 00 00 00 00 0C 00 00 00 00 00 00 00 00 00 00 00 00",
+    ];
+    let at_the_border = [
+        "  sense     BLANK CHECK: end of data (8/00/05), residue 1",
+        "            F0 00 08 00 00 00 01 0C 00 00 00 00 00 05 00 00 00 00 00 00",
+    ];
+    let located = [
+        "  sense     BLANK CHECK: end of data (8/00/05)",
+        "            70 00 08 00 00 00 00 0C 00 00 00 00 00 05 00 00 00 00 00 00",
+    ];
+    for (warning, write, end) in [("2", warned, near), ("1", written, at_the_border)] {
+        let said = behind_three_blocks(warning);
+        assert_eq!(senses(&said), [write, end, end, end, located].concat());
+    }
+}
+
 #[test]
 fn without_a_record_the_attention_is_taken_unless_cold() {
     let place = plate();

@@ -98,6 +98,10 @@ fn sense_in_words(device: &PacketDevice) -> String {
     if sense.eom {
         text.push_str(", EOM");
     }
+    // 02, A3: "EOM is shown too when that happens at or after early warning."
+    if sense.eom && sense.triple() == triple::END_OF_DATA {
+        text.push_str(": near the end of tape");
+    }
     text
 }
 
