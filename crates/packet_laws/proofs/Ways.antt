@@ -8,15 +8,17 @@ use borrow.Author.Tests.{eqb-true, eqb-false, eq-eqb}
 use lib.Dec.{eqb}
 use lib.ListN.{length}
 use Rattle.numbers.specs.Choice.{if_then_else_}
+use Rattle.image.specs.declared.header.Header.{Header}
 use Rattle.image.specs.Header.{fieldsOf, brokenImage}
 use Rattle.packet_state.specs.declared.state.Sense.{Sense}
 use Rattle.packet_state.specs.declared.state.State.{State}
 use Rattle.packet_state.specs.declared.state.Verdict.{Verdict}
 use Rattle.packet_state.specs.declared.state.Verdict.the-variants.{Refuses, Ends, Works}
+use Rattle.packet_parts.specs.declared.requests.Request.{Request}
 use Rattle.packet_parts.specs.declared.verdicts.Asked.{Asked}
 use Rattle.packet_parts.specs.Answers.{Left, notTwelveBytes, unrulyRecord, shortBuffer}
 use Rattle.packet_parts.specs.Requests.{packetLength}
-use Rattle.packet_parts.specs.Shell.{Device, refuses, carriedOut, foundBy, endsFirst, decided, answersTo}
+use Rattle.packet_parts.specs.Shell.{Device, withWork, refuses, carriedOut, foundBy, endsFirst, decided, answersTo}
 use Rattle.packet_parts.specs.Verdicts.{isProtected, isHeld, endsEarly}
 use Rattle.packet_parts.proofs.VerdictLaws.{Modest, Found, found-early, found-short, found-clear, found}
 use Rattle.packet_laws.specs.Words.{roomFor, Unended, Passes}
@@ -55,12 +57,15 @@ module _ {R : Type 0} (d : Device R) (s : List ℕ) (st : R) (packet buf : List 
   by-verdict p (found-short e l) = short p e l
   by-verdict p (found-clear e l) = works p e l
 
-  by-tests : (a b c : Bool) → eqb (length packet) packetLength ≡ a → d .accepts s ≡ b → d .keepsRules (fieldsOf s) st ≡ c
-      → Way
-      (if not a then refuses st notTwelveBytes s buf else
+  -- the order of the checks 1 to 3, by their tests
+  abbrev shell : Bool → Bool → Bool → Left R
+  shell a b c =
+      if not a then refuses st notTwelveBytes s buf else
       if not b then refuses st brokenImage s buf else
       if not c then refuses st unrulyRecord s buf else
-      decided d s (fieldsOf s) st (d .request packet) buf)
+      decided d s (fieldsOf s) st (d .request packet) buf
+
+  by-tests : (a b c : Bool) → eqb (length packet) packetLength ≡ a → d .accepts s ≡ b → d .keepsRules (fieldsOf s) st ≡ c → Way (shell a b c)
   unfolding decided
   by-tests false b c p r t = cut (eqb-false _ _ p)
   by-tests true false c p r t = broken (eqb-true _ _ p) r
@@ -79,3 +84,22 @@ module _ {R : Type 0} (d : Device R) (s : List ℕ) (st : R) (packet buf : List 
   pub step-passed : Passes d s st packet buf → answersTo d s st packet buf ≡ carried (foundBy d (fieldsOf s) st (d .request packet) (length buf))
   unfolding answersTo decided
   step-passed p = rw (eq-eqb _ _ (p .twelve), p .good, p .ruly)
+
+-- two devices that differ in their work alone: P holds of what they leave where it holds of their refusals and of what the verdict comes to
+module _ {R : Type 0} (d : Device R) (work : List ℕ → Header → R → Request → List ℕ → Left R) (s : List ℕ) (st : R) (packet buf : List ℕ)
+    (P : Left R → Left R → Type 0) (refused : (n : ℕ) → P (refuses st n s buf) (refuses st n s buf)) where
+  abbrev verdict : Verdict
+  verdict = foundBy d (fieldsOf s) st (d .request packet) (length buf)
+
+  module _ (judged : Passes d s st packet buf → P (carried d s st packet buf verdict) (carried (withWork d work) s st packet buf verdict)) where
+    tests-beside : (a b c : Bool) → eqb (length packet) packetLength ≡ a → d .accepts s ≡ b → d .keepsRules (fieldsOf s) st ≡ c
+        → P (shell d s st packet buf a b c) (shell (withWork d work) s st packet buf a b c)
+    unfolding decided
+    tests-beside false b c p r t = refused notTwelveBytes
+    tests-beside true false c p r t = refused brokenImage
+    tests-beside true true false p r t = refused unrulyRecord
+    tests-beside true true true p r t = judged (record { twelve = eqb-true _ _ p; good = r; ruly = t })
+
+    pub way-beside : P (answersTo d s st packet buf) (answersTo (withWork d work) s st packet buf)
+    unfolding answersTo
+    way-beside = tests-beside _ _ _ refl refl refl

@@ -27,6 +27,19 @@ pub record Device (R : Type 0) : Type 0 where
   pub asks : Header → R → Request → Asked
   pub work : List ℕ → Header → R → Request → List ℕ → Left R
 
+-- the same device with another work
+abbrev pub withWork : {R : Type 0} → Device R → (List ℕ → Header → R → Request → List ℕ → Left R) → Device R
+withWork d work =
+    record {
+      shared = d .shared;
+      withShared = d .withShared;
+      accepts = d .accepts;
+      keepsRules = d .keepsRules;
+      request = d .request;
+      asks = d .asks;
+      work = work;
+    }
+
 -- a refusal "alters nothing"
 abbrev pub refuses : {R : Type 0} → R → ℕ → List ℕ → List ℕ → Left R
 refuses st number s buf = record { answer = refusal number; state = st; image = s; buf = buf }

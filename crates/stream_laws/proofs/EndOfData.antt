@@ -7,11 +7,10 @@ use mathlib.Core.List.{List, []}
 use mathlib.Core.Path.{_≡_, refl, sym, ap}
 use borrow.Author.Tests.{le-ltb, not-true}
 use lib.Dec.{eqb, leb, ltb}
-use lib.ListN.{length}
-use Rattle.numbers.specs.Choice.{if_then_else_, _≡ᵇ_}
-use Rattle.numbers.proofs.Cases.{test, either, never, and-r}
+use Rattle.numbers.specs.Choice.{_≡ᵇ_}
+use Rattle.numbers.proofs.Cases.{test, either, never}
 use Rattle.image.specs.declared.header.Header.{Header}
-use Rattle.image.specs.Header.{fieldsOf, keepsHeaderRules, brokenImage, withWarning}
+use Rattle.image.specs.Header.{fieldsOf, withWarning}
 use Rattle.image.proofs.HeaderLaws.{good-header, sound}
 use Rattle.opcodes.specs.declared.Command.{Command}
 use Rattle.opcodes.specs.declared.Command.the-variants.{Unknown, TestUnitReady, Rewind, RequestSense, Read, Write, WriteFilemarks, Space, Inquiry}
@@ -27,20 +26,19 @@ use Rattle.packet_state.specs.declared.state.Outcome.{Outcome}
 use Rattle.packet_state.specs.declared.state.State.{State}
 use Rattle.packet_state.specs.declared.state.Verdict.{Verdict}
 use Rattle.packet_state.specs.declared.state.Verdict.the-variants.{Refuses, Ends, Works}
-use Rattle.packet_state.specs.States.{keepsRecordRules}
 use Rattle.packet_parts.specs.declared.requests.Request.{Request}
 use Rattle.packet_parts.specs.declared.verdicts.Asked.{Asked}
-use Rattle.packet_parts.specs.Answers.{Left, done, ends, notTwelveBytes, unrulyRecord}
+use Rattle.packet_parts.specs.Answers.{Left, done, ends}
 use Rattle.packet_parts.specs.Replies.{fullList, replyEnds}
-use Rattle.packet_parts.specs.Requests.{packetLength}
-use Rattle.packet_parts.specs.Shell.{Device, refuses, carriedOut, foundBy, decided, answersTo}
+use Rattle.packet_parts.specs.Shell.{refuses, carriedOut}
 use Rattle.packet_parts.specs.Verdicts.{foundFirst, verdictBy}
 use Rattle.packet_work.specs.Settings.{goodList, speedWork, loadWork}
+use Rattle.packet_laws.proofs.Ways.{way-beside}
 use Rattle.stream_parts.specs.Requests.{requestOf, spaceCode, toEndOfData}
 use Rattle.stream_parts.specs.Warning.{pastWarning}
 use Rattle.stream.specs.Packet.{streamDevice, packetStep}
 use Rattle.stream.specs.Work.{endingOf, readEnds, readWork, writeEnding, writeEnds, writeWork, markWork, spaceRun, spaceWork, selectWork, locateWork, workOf}
-use Rattle.stream_laws.specs.EndOfData.{asksWarning, seenBefore, deviceBefore, stepBefore, readsOrSpaces, blankCheck, tellsEnd, showing, carryingEom}
+use Rattle.stream_laws.specs.EndOfData.{asksWarning, seenBefore, deviceBefore, stepBefore, readsOrSpaces, blankCheck, tellsEnd, carryingEom}
 use Rattle.stream_laws.specs.Demands.{EndOfDataEom}
 
 -- ---- the work of each command, now and before
@@ -199,24 +197,10 @@ module _ (s : List ℕ) (st : State) (packet buf : List ℕ) where
         unwarned = λ z. rw (seen-same (q .command) h z);
       }
 
-  abbrev after : Device State → Bool → Bool → Bool → Left State
-  after d a b c =
-      if not a then refuses st notTwelveBytes s buf else
-      if not b then refuses st brokenImage s buf else
-      if not c then refuses st unrulyRecord s buf else
-      decided d s h st q buf
-
-  tests-now : (a b c : Bool) → keepsHeaderRules s ≡ b → NowBefore (after streamDevice a b c) (after deviceBefore a b c)
-  unfolding decided
-  tests-now false b c e = refused-now notTwelveBytes
-  tests-now true false c e = refused-now brokenImage
-  tests-now true true false e = refused-now unrulyRecord
-  tests-now true true true e =
-      verdict-now (foundBy streamDevice h st q (length buf)) (verdict-other _ _ _ _) (sound s h (good-header s e) .recorded-within)
-
   packet-now : NowBefore (packetStep s st packet buf) (stepBefore s st packet buf)
-  unfolding answersTo
-  packet-now = tests-now (eqb (length packet) packetLength) (keepsHeaderRules s) (keepsRecordRules (h .recorded) st) refl
+  packet-now =
+      way-beside streamDevice _ s st packet buf NowBefore refused-now
+      (λ p. verdict-now _ (verdict-other _ _ _ _) (sound s h (good-header s (p .good)) .recorded-within))
 
 pub end-of-data-eom : EndOfDataEom
 end-of-data-eom =

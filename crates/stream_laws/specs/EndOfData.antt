@@ -13,7 +13,7 @@ use Rattle.packet_state.specs.declared.state.State.{State}
 use Rattle.packet_state.specs.Senses.{withEom}
 use Rattle.packet_state.specs.States.{withSense}
 use Rattle.packet_parts.specs.Answers.{Left, checkCondition}
-use Rattle.packet_parts.specs.Shell.{Device, answersTo}
+use Rattle.packet_parts.specs.Shell.{Device, withWork, answersTo}
 use Rattle.packet_laws.specs.Words.{statusOf}
 use Rattle.stream_parts.specs.Warning.{pastWarning}
 use Rattle.stream.specs.Packet.{streamDevice}
@@ -44,16 +44,7 @@ seenBefore c h = if asksWarning c then h else withWarning h 0
 
 -- the stream device of 01 alone
 abbrev pub deviceBefore : Device State
-deviceBefore =
-    record {
-      shared = streamDevice .shared;
-      withShared = streamDevice .withShared;
-      accepts = streamDevice .accepts;
-      keepsRules = streamDevice .keepsRules;
-      request = streamDevice .request;
-      asks = streamDevice .asks;
-      work = λ s h st q buf. workOf (q .command) s (seenBefore (q .command) h) st q buf;
-    }
+deviceBefore = withWork streamDevice (λ s h st q buf. workOf (q .command) s (seenBefore (q .command) h) st q buf)
 
 abbrev pub stepBefore : List ℕ → State → List ℕ → List ℕ → Left State
 stepBefore s st packet buf = answersTo deviceBefore s st packet buf
