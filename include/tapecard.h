@@ -73,7 +73,7 @@ extern "C" {
 #define TAPECARD_ATTENTION_CHANGED 1 /* the medium was changed */
 #define TAPECARD_ATTENTION_RESET 2   /* the drive was reset */
 #define TAPECARD_SENSE_VALID 0x01    /* the information is valid */
-#define TAPECARD_SENSE_EOM 0x02      /* end of medium, at either end; with 8/00/05 of READ and SPACE: U > C - W */
+#define TAPECARD_SENSE_EOM 0x02      /* end of medium, at either end; on the stream device also with 8/00/05 of READ and SPACE, where U > C - W */
 #define TAPECARD_SENSE_FILEMARK 0x04 /* a filemark was met */
 
 /* The answer. */

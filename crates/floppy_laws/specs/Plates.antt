@@ -83,8 +83,8 @@ plates =
     W 0 from (placed 0) send (sent 0x08 1 0 0 3 0 0) with room blocks 1 bytes 512 P 2 product 4 gives (7 ∷ 7 ∷ []) sense (senseOf 0xf0 0x03 1 0x11 0)
     -- "kind 2 counts as unreadable": READ 2 at 2, no block, P 3, residue 1
     ∷ W 0 from (placed 2) send (sent 0x08 1 0 0 2 0 0) with room blocks 0 bytes 0 P 3 product 4 gives (9 ∷ 9 ∷ []) sense (senseOf 0xf0 0x03 1 0x11 0)
-    -- "Reads .. stop at the product as the stream device does at U": READ 2 at 3, one block, P 4, residue 1, 8/00/05, no EOM
-    ∷ W 0 from (placed 3) send (sent 0x08 1 0 0 2 0 0) with room blocks 1 bytes 512 P 4 product 4 gives (7 ∷ 7 ∷ []) sense (senseOf 0xf0 0x08 1 0 5)
+    -- "Reads .. stop at the product as the stream device does at U": READ 2 at 3, one block, P 4, residue 1, 8/00/05; "W plays no part": no EOM
+    ∷ W 4 from (placed 3) send (sent 0x08 1 0 0 2 0 0) with room blocks 1 bytes 512 P 4 product 4 gives (7 ∷ 7 ∷ []) sense (senseOf 0xf0 0x08 1 0 5)
     -- "writes stop at the product as the stream device does .. at C; a write leaves U": WRITE 2 at 3, one stored, P 4, key D, EOM, residue 1
     ∷ W 0 from (placed 3) send (sent 0x0a 1 0 0 2 0 0) with room blocks 1 bytes 512 P 4 product 4 gives [] sense (senseOf 0xf0 0x4d 1 0 2)
     -- "W plays no part": WRITE 1 at 3 with W 4 is GOOD

@@ -214,5 +214,7 @@ end-of-data-eom =
           rw z (w .plain (rw z at e));
       else-before = λ s st packet buf. packet-now s st packet buf .now;
       none-before = λ s st packet buf. packet-now s st packet buf .plain;
-      unwarned = λ s st packet buf. packet-now s st packet buf .unwarned;
+      unwarned = λ s st packet buf z e.
+          let w = packet-now s st packet buf in
+          rw (w .unwarned z) (w .plain (rw (w .unwarned z) at e));
     }

@@ -96,7 +96,7 @@ RecordKept =
     (s : List ℕ) (st : State) (packet buf : List ℕ) → BeginsWork s st packet buf → Moves (requestOf packet .command)
     → packetStep s st packet buf .state ≡ withSense (atPlace st (packetStep s st packet buf .state .position)) (packetStep s st packet buf .state .sense)
 
--- A READ that begins is all that 01 asks of it, and nothing of it is left open: two drives that do what 01 asks leave the same.
+-- A READ that begins is all that 01 and 02, A3 ask of it, and nothing of it is left open: two drives that do what they ask leave the same.
 pub record ReadSettled : Type 0 where
   pub good : (s : List ℕ) (st : State) (packet buf : List ℕ) → BeginsWork s st packet buf → requestOf packet .command ≡ Read
       → GoodRead s st (requestOf packet .count) buf (packetStep s st packet buf)
@@ -127,8 +127,9 @@ pub record EndOfDataEom : Type 0 where
   -- 01: "8/00/05, no EOM": before, none did
   pub none-before : (s : List ℕ) (st : State) (packet buf : List ℕ) → tellsEnd (stepBefore s st packet buf) ≡ true
       → stepBefore s st packet buf .state .sense .eom ≡ false
-  -- "The cases with W 0 stay."
-  pub unwarned : (s : List ℕ) (st : State) (packet buf : List ℕ) → fieldsOf s .warning ≡ 0 → packetStep s st packet buf ≡ stepBefore s st packet buf
+  -- "The cases with W 0 stay.": there none does now
+  pub unwarned : (s : List ℕ) (st : State) (packet buf : List ℕ) → fieldsOf s .warning ≡ 0 → tellsEnd (packetStep s st packet buf) ≡ true
+      → packetStep s st packet buf .state .sense .eom ≡ false
 
 -- "Prove that any two outcomes allowed by it coincide": what the promises of `packet`, `fresh` and `changed` allow.
 pub record Settled : Type 0 where
@@ -211,7 +212,7 @@ ReadsBack =
 abbrev pub PlatesPrint : Type 0
 PlatesPrint = allAgree plates ≡ true
 
--- 02, A3: the end of data far from the warning, at it and past it, met by READ and by SPACE over blocks and over filemarks; and LOCATE.
+-- 02, A3: the end of data on a tape without early warning, at its place and past it, met by READ and by SPACE over blocks and over filemarks; and LOCATE.
 abbrev pub EndOfDataPlates : Type 0
 EndOfDataPlates = allAgree endPlates ≡ true
 

@@ -1,4 +1,4 @@
--- 02, A3, "End of data near the end of tape": the drive as it was before, and what its 8/00/05 carries now.
+-- 02, A3, "End of data near the end of tape": the drive as it was before, and what 8/00/05 carries now.
 -- Assumes nothing.
 use Prim.Native.Nat.{ℕ}
 use mathlib.Core.Bool.{Bool, true, false, _&&_}
@@ -38,7 +38,7 @@ asksWarning LoadUnload = false
 asksWarning Locate = false
 asksWarning ReadPosition = true
 
--- to every other command it was as if W were 0
+-- every other command was answered as if W were 0
 abbrev pub seenBefore : Command → Header → Header
 seenBefore c h = if asksWarning c then h else withWarning h 0
 

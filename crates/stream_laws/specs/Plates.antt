@@ -4,10 +4,10 @@ use Prim.Native.Nat.{ℕ, _≤_}
 use mathlib.Core.Bool.{Bool, true, _&&_}
 use mathlib.Core.List.{List, [], _∷_}
 use lib.ListN.{replicate, set}
-use Rattle.numbers.specs.Choice.{_≡ᵇ_}
+use Rattle.numbers.specs.Choice.{if_then_else_, _≡ᵇ_}
 use Rattle.image.specs.Header.{fieldsOf}
 use Rattle.packet_state.specs.declared.state.State.{State}
-use Rattle.packet_parts.specs.Answers.{Left}
+use Rattle.packet_parts.specs.Answers.{Left, goodStatus, checkCondition}
 use Rattle.stream.specs.Packet.{packetStep}
 use Rattle.packet_parts.specs.Replies.{senseBytes}
 use Rattle.packet_laws.specs.Plates.{plateImage, standing, sent, senseOf, same}
@@ -52,11 +52,15 @@ abbrev pub W_from_send_blocks_P_U_sense_ : ℕ → State → List ℕ → ℕ �
 W w from st send packet blocks n P p U u sense x =
     record { warning = w; before = st; packet = packet; blocks = n; place = p; recorded = u; sense = x }
 
+-- CHECK CONDITION with a sense, GOOD with none
+abbrev pub statusBeside : List ℕ → ℕ
+statusBeside told = if same told (senseOf 0x70 0 0 0 0) then goodStatus else checkCondition
+
 -- what came is what the plate says
 abbrev pub agrees : Plate → Left State → Bool
 agrees p x =
-    (x .answer .number ≡ᵇ 0) && (x .answer .blocks ≡ᵇ p .blocks) && (x .state .position ≡ᵇ p .place)
-    && (fieldsOf (x .image) .recorded ≡ᵇ p .recorded) && same (senseBytes (x .state .sense)) (p .sense)
+    (x .answer .number ≡ᵇ 0) && (x .answer .status ≡ᵇ statusBeside (p .sense)) && (x .answer .blocks ≡ᵇ p .blocks)
+    && (x .state .position ≡ᵇ p .place) && (fieldsOf (x .image) .recorded ≡ᵇ p .recorded) && same (senseBytes (x .state .sense)) (p .sense)
 
 -- each plate of the table, with a buffer of two blocks
 abbrev pub allAgree : List Plate → Bool

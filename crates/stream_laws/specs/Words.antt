@@ -142,7 +142,7 @@ pub record Kept (s : List ℕ) (st : State) (packet buf : List ℕ) (x : Left St
 
 -- ---- what READ, WRITE and WRITE FILEMARK owe
 
--- all that 01 asks of a READ of N blocks, of any drive: x is what it leaves
+-- all that 01 and 02, A3 ask of a READ of N blocks, of any drive: x is what it leaves
 pub record GoodRead (s : List ℕ) (st : State) (n : ℕ) (buf : List ℕ) (x : Left State) : Type 0 where
   pub accepted : numberOf x ≡ 0
   -- status, sense and new P go by the blocks, which are data; the bytes by the blocks
