@@ -271,7 +271,7 @@ module _ (s : List ℕ) (f : Floppy) (packet buf : List ℕ) where
   accepted-by (broken t b) e = absurd (omega arith)
   accepted-by (unruly t g b) e = absurd (omega arith)
   accepted-by (short p u l) e = absurd (omega arith)
-  accepted-by (ends-early p x u k) e = early-leaves s f (floppyRequest packet) buf (p .good) (p .ruly) (floppyRequest packet .command) x (k .0)
+  accepted-by (ends-early p x u k) e = early-leaves s f (floppyRequest packet) buf (p .good) (p .ruly) (floppyRequest packet .command) x (omega (arith, k))
   accepted-by (works p u l) e =
       work-leaves s f (floppyRequest packet) buf (p .good) (p .ruly) (floppyRequest packet .command) (unended-field floppyDevice s f packet buf u) l
 

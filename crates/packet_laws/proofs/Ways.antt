@@ -20,7 +20,7 @@ use Rattle.packet_parts.specs.Answers.{Left, notTwelveBytes, unrulyRecord, shor
 use Rattle.packet_parts.specs.Requests.{packetLength}
 use Rattle.packet_parts.specs.Shell.{Device, withWork, refuses, carriedOut, foundBy, endsFirst, decided, answersTo}
 use Rattle.packet_parts.specs.Verdicts.{isProtected, isHeld, endsEarly}
-use Rattle.packet_parts.proofs.VerdictLaws.{Modest, Found, found-early, found-short, found-clear, found}
+use Rattle.packet_parts.proofs.VerdictLaws.{Early, Found, found-early, found-short, found-clear, found}
 use Rattle.packet_laws.specs.Words.{roomFor, Unended, Passes}
 
 third-false : (a b c d e f : Bool) → (a || b || c || d || e || f) ≡ false → c ≡ false
@@ -49,7 +49,7 @@ module _ {R : Type 0} (d : Device R) (s : List ℕ) (st : R) (packet buf : List 
     broken : length packet ≡ packetLength → d .accepts s ≡ false → Way (refuses st brokenImage s buf)
     unruly : length packet ≡ packetLength → d .accepts s ≡ true → d .keepsRules (fieldsOf s) st ≡ false → Way (refuses st unrulyRecord s buf)
     short : Passes d s st packet buf → Unended d s st packet buf → length buf < roomFor d s st packet buf → Way (carried (Refuses shortBuffer))
-    ends-early : Passes d s st packet buf → (x : Sense) → endsFirst d (fieldsOf s) st (d .request packet) ≡ true → Modest 0 x → Way (carried (Ends x))
+    ends-early : Passes d s st packet buf → (x : Sense) → endsFirst d (fieldsOf s) st (d .request packet) ≡ true → Early x → Way (carried (Ends x))
     works : Passes d s st packet buf → Unended d s st packet buf → roomFor d s st packet buf ≤ length buf → Way (carried Works)
 
   by-verdict : {v : Verdict} → Passes d s st packet buf → FoundFor v → Way (carried v)
@@ -85,21 +85,19 @@ module _ {R : Type 0} (d : Device R) (s : List ℕ) (st : R) (packet buf : List 
   unfolding answersTo decided
   step-passed p = rw (eq-eqb _ _ (p .twelve), p .good, p .ruly)
 
--- two devices that differ in their work alone: P holds of what they leave where it holds of their refusals and of what the verdict comes to
+-- two devices that differ in their work alone: P holds of what they leave where it holds of their refusals and of what each verdict comes to
 module _ {R : Type 0} (d : Device R) (work : List ℕ → Header → R → Request → List ℕ → Left R) (s : List ℕ) (st : R) (packet buf : List ℕ)
-    (P : Left R → Left R → Type 0) (refused : (n : ℕ) → P (refuses st n s buf) (refuses st n s buf)) where
-  abbrev verdict : Verdict
-  verdict = foundBy d (fieldsOf s) st (d .request packet) (length buf)
+    (P : Left R → Left R → Type 0) (refused : (n : ℕ) → P (refuses st n s buf) (refuses st n s buf))
+    (judged : (v : Verdict) → Passes d s st packet buf → FoundFor d s st packet buf v
+    → P (carried d s st packet buf v) (carried (withWork d work) s st packet buf v)) where
+  tests-beside : (a b c : Bool) → eqb (length packet) packetLength ≡ a → d .accepts s ≡ b → d .keepsRules (fieldsOf s) st ≡ c
+      → P (shell d s st packet buf a b c) (shell (withWork d work) s st packet buf a b c)
+  unfolding decided
+  tests-beside false b c p r t = refused notTwelveBytes
+  tests-beside true false c p r t = refused brokenImage
+  tests-beside true true false p r t = refused unrulyRecord
+  tests-beside true true true p r t = judged _ (record { twelve = eqb-true _ _ p; good = r; ruly = t }) (found-for d s st packet buf)
 
-  module _ (judged : Passes d s st packet buf → P (carried d s st packet buf verdict) (carried (withWork d work) s st packet buf verdict)) where
-    tests-beside : (a b c : Bool) → eqb (length packet) packetLength ≡ a → d .accepts s ≡ b → d .keepsRules (fieldsOf s) st ≡ c
-        → P (shell d s st packet buf a b c) (shell (withWork d work) s st packet buf a b c)
-    unfolding decided
-    tests-beside false b c p r t = refused notTwelveBytes
-    tests-beside true false c p r t = refused brokenImage
-    tests-beside true true false p r t = refused unrulyRecord
-    tests-beside true true true p r t = judged (record { twelve = eqb-true _ _ p; good = r; ruly = t })
-
-    pub way-beside : P (answersTo d s st packet buf) (answersTo (withWork d work) s st packet buf)
-    unfolding answersTo
-    way-beside = tests-beside _ _ _ refl refl refl
+  pub way-beside : P (answersTo d s st packet buf) (answersTo (withWork d work) s st packet buf)
+  unfolding answersTo
+  way-beside = tests-beside _ _ _ refl refl refl

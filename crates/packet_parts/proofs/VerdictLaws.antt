@@ -13,30 +13,29 @@ use Rattle.packet_state.specs.declared.state.State.{State}
 use Rattle.packet_state.specs.declared.state.Verdict.{Verdict}
 use Rattle.packet_state.specs.declared.state.Verdict.the-variants.{Refuses, Ends, Works}
 use Rattle.packet_state.specs.Senses.{unitAttention, invalidOpcode, invalidField, wrongListLength, notLoaded, writeProtected}
-use Rattle.packet_state.specs.States.{highestKey}
 use Rattle.packet_parts.specs.declared.verdicts.Asked.{Asked}
 use Rattle.packet_parts.specs.Answers.{shortBuffer}
 use Rattle.packet_parts.specs.Verdicts.{foundFirst, verdictBy, endsEarly}
 
--- a sense whose key keeps refusal 3's rule, with information n at most
-abbrev pub Modest : ℕ → Sense → Type 0
-Modest n x = (x .key ≤ highestKey) × (x .information ≤ n)
+-- the sense of what ends a packet before its work: of its keys 7, write protected, is the highest, and it has no information
+abbrev pub Early : Sense → Type 0
+Early x = (x .key ≤ 7) × (x .information ≤ 0)
 
 module _ (a : Asked) (protected : Bool) (st : State) (room : ℕ) where
   pub data Found : Verdict → Type 0 where
-    found-early : (x : Sense) → endsEarly a protected st ≡ true → Modest 0 x → Found (Ends x)
+    found-early : (x : Sense) → endsEarly a protected st ≡ true → Early x → Found (Ends x)
     found-short : endsEarly a protected st ≡ false → room < a .needed → Found (Refuses shortBuffer)
     found-clear : endsEarly a protected st ≡ false → a .needed ≤ room → Found Works
 
-  attention-modest : (x : Attention) → Modest 0 (unitAttention x)
-  attention-modest Nothing = omega arith
-  attention-modest MediumChanged = omega arith
-  attention-modest Reset = omega arith
+  attention-early : (x : Attention) → Early (unitAttention x)
+  attention-early Nothing = omega arith
+  attention-early MediumChanged = omega arith
+  attention-early Reset = omega arith
 
   found-by : (t u f l m k g : Bool) → endsEarly a protected st ≡ (t || u || f || l || m || k) → ltb room (a .needed) ≡ g
       → Found (foundFirst (st .attention) t u f l m k g)
   unfolding foundFirst
-  found-by true u f l m k g p e = found-early (unitAttention (st .attention)) p (attention-modest (st .attention))
+  found-by true u f l m k g p e = found-early (unitAttention (st .attention)) p (attention-early (st .attention))
   found-by false true f l m k g p e = found-early invalidOpcode p (omega arith)
   found-by false false true l m k g p e = found-early invalidField p (omega arith)
   found-by false false false true m k g p e = found-early wrongListLength p (omega arith)

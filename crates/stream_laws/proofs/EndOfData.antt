@@ -5,7 +5,7 @@ use native.Mathlib.Omega.{arith}
 use mathlib.Core.Bool.{Bool, true, false, not, _&&_, and-false, false≢true}
 use mathlib.Core.List.{List, []}
 use mathlib.Core.Path.{_≡_, refl, sym, ap}
-use borrow.Author.Tests.{le-ltb, not-true}
+use borrow.Author.Tests.{le-ltb, ne-eqb}
 use lib.Dec.{eqb, leb, ltb}
 use Rattle.numbers.specs.Choice.{_≡ᵇ_}
 use Rattle.numbers.proofs.Cases.{test, either, never}
@@ -18,22 +18,19 @@ use Rattle.opcodes.specs.declared.Command.the-variants.{ModeSelect, ModeSense, 
 use Rattle.transfer.specs.declared.Moved.{Moved}
 use Rattle.transfer.specs.declared.Stop.{Stop}
 use Rattle.transfer.specs.declared.Stop.the-variants.{Full, AtFilemark, AtBadBlock, AtEnd, AtBeginning}
-use Rattle.packet_state.specs.declared.state.Attention.{Attention}
-use Rattle.packet_state.specs.declared.state.Attention.the-variants.{Nothing, MediumChanged, Reset}
 use Rattle.packet_state.specs.declared.state.Ending.{Ending}
 use Rattle.packet_state.specs.declared.state.Ending.the-variants.{Good, Check}
 use Rattle.packet_state.specs.declared.state.Outcome.{Outcome}
 use Rattle.packet_state.specs.declared.state.State.{State}
 use Rattle.packet_state.specs.declared.state.Verdict.{Verdict}
-use Rattle.packet_state.specs.declared.state.Verdict.the-variants.{Refuses, Ends, Works}
 use Rattle.packet_parts.specs.declared.requests.Request.{Request}
-use Rattle.packet_parts.specs.declared.verdicts.Asked.{Asked}
-use Rattle.packet_parts.specs.Answers.{Left, done, ends}
+use Rattle.packet_parts.specs.Answers.{Left, shortBuffer, done, ends}
 use Rattle.packet_parts.specs.Replies.{fullList, replyEnds}
 use Rattle.packet_parts.specs.Shell.{refuses, carriedOut}
-use Rattle.packet_parts.specs.Verdicts.{foundFirst, verdictBy}
+use Rattle.packet_parts.proofs.VerdictLaws.{found-early, found-short, found-clear}
 use Rattle.packet_work.specs.Settings.{goodList, speedWork, loadWork}
-use Rattle.packet_laws.proofs.Ways.{way-beside}
+use Rattle.packet_laws.specs.Words.{Passes}
+use Rattle.packet_laws.proofs.Ways.{FoundFor, carried, way-beside}
 use Rattle.stream_parts.specs.Requests.{requestOf, spaceCode, toEndOfData}
 use Rattle.stream_parts.specs.Warning.{pastWarning}
 use Rattle.stream.specs.Packet.{streamDevice, packetStep}
@@ -128,34 +125,6 @@ work-plain Locate s h st q buf l =
     either PlainOut (ltb (h .recorded) (q .target)) _ _ (λ e. ends-plain _ _ _ _ refl) (λ e. ends-plain _ _ _ _ refl)
 work-plain ReadPosition s h st q buf l = ends-plain _ _ _ _ refl
 
--- ---- what is found before the work: no key 8
-
-abbrev otherKey : Verdict → Bool
-otherKey (Refuses number) = true
-otherKey (Ends x) = not (x .key ≡ᵇ blankCheck)
-otherKey Works = true
-
-attention-other : (a : Attention) (u f l m k g : Bool) → otherKey (foundFirst a true u f l m k g) ≡ true
-unfolding foundFirst
-attention-other Nothing u f l m k g = refl
-attention-other MediumChanged u f l m k g = refl
-attention-other Reset u f l m k g = refl
-
-found-other : (a : Attention) (t u f l m k g : Bool) → otherKey (foundFirst a t u f l m k g) ≡ true
-unfolding foundFirst
-found-other a true u f l m k g = attention-other a u f l m k g
-found-other a false true f l m k g = refl
-found-other a false false true l m k g = refl
-found-other a false false false true m k g = refl
-found-other a false false false false true k g = refl
-found-other a false false false false false true g = refl
-found-other a false false false false false false true = refl
-found-other a false false false false false false false = refl
-
-verdict-other : (a : Asked) (protected : Bool) (st : State) (room : ℕ) → otherKey (verdictBy a protected st room) ≡ true
-unfolding verdictBy
-verdict-other a protected st room = found-other _ _ _ _ _ _ _ _
-
 -- ---- the whole packet
 
 -- with W 0 every command sees the header as it is
@@ -185,22 +154,20 @@ module _ (s : List ℕ) (st : State) (packet buf : List ℕ) where
   refused-now : (n : ℕ) → NowBefore (refuses st n s buf) (refuses st n s buf)
   refused-now n = other-now (q .command) h (refuses st n s buf) refl
 
-  verdict-now : (v : Verdict) → otherKey v ≡ true → h .recorded ≤ h .capacity
-      → NowBefore (carriedOut streamDevice v s h st q buf) (carriedOut deviceBefore v s h st q buf)
+  verdict-now : {v : Verdict} → Passes streamDevice s st packet buf → FoundFor streamDevice s st packet buf v
+      → NowBefore (carried streamDevice s st packet buf v) (carried deviceBefore s st packet buf v)
   unfolding carriedOut
-  verdict-now (Refuses number) e l = refused-now number
-  verdict-now (Ends x) e l = other-now (q .command) h _ (not-true _ e)
-  verdict-now Works e l =
+  verdict-now p (found-early x e k) = other-now (q .command) h _ (ne-eqb (x .key) blankCheck (λ z. omega arith))
+  verdict-now p (found-short e l) = refused-now shortBuffer
+  verdict-now p (found-clear e l) =
       record {
         now = work-now (q .command) s h st q buf;
-        plain = work-plain (q .command) s h st q buf l;
+        plain = work-plain (q .command) s h st q buf (sound s h (good-header s (p .good)) .recorded-within);
         unwarned = λ z. rw (seen-same (q .command) h z);
       }
 
   packet-now : NowBefore (packetStep s st packet buf) (stepBefore s st packet buf)
-  packet-now =
-      way-beside streamDevice _ s st packet buf NowBefore refused-now
-      (λ p. verdict-now _ (verdict-other _ _ _ _) (sound s h (good-header s (p .good)) .recorded-within))
+  packet-now = way-beside streamDevice _ s st packet buf NowBefore refused-now (λ v p f. verdict-now p f)
 
 pub end-of-data-eom : EndOfDataEom
 end-of-data-eom =

@@ -1,6 +1,6 @@
 -- The sense of each ending of the work: its key and its residue.
 -- Assumes nothing.
-use Prim.Native.Nat.{ℕ, _+_, _-_}
+use Prim.Native.Nat.{ℕ, _+_, _-_, _≤_}
 use native.Mathlib.Omega.{arith}
 use mathlib.Core.Bool.{_&&_}
 use mathlib.Core.Path.{_≡_, refl}
@@ -13,13 +13,18 @@ use Rattle.transfer.specs.declared.Stop.{Stop}
 use Rattle.transfer.specs.declared.Stop.the-variants.{Full, AtFilemark, AtBadBlock, AtEnd, AtBeginning}
 use Rattle.transfer.proofs.EndLaws.{Ended}
 use Rattle.packet_state.specs.declared.state.Ending.{Ending}
-use Rattle.packet_parts.proofs.VerdictLaws.{Modest}
+use Rattle.packet_state.specs.declared.state.Sense.{Sense}
+use Rattle.packet_state.specs.States.{highestKey}
 use Rattle.stream_parts.specs.Warning.{pastWarning}
 use Rattle.stream.specs.Work.{endingOf, writeEnding}
 use Rattle.packet_laws.specs.Words.{residueOf}
 use Rattle.packet_laws.proofs.Endings.{senseOf}
 
 -- ---- keys and information
+
+-- a sense whose key keeps refusal 3's rule, with information n at most
+abbrev pub Modest : ℕ → Sense → Type 0
+Modest n x = (x .key ≤ highestKey) × (x .information ≤ n)
 
 pub ending-modest : (h : Header) (stop : Stop) (left : ℕ) → Modest left (senseOf (endingOf h stop left))
 unfolding endingOf

@@ -48,7 +48,6 @@ use Rattle.packet_work.specs.Moving.{moves}
 use Rattle.packet_work.specs.Replies.{replyWork}
 use Rattle.packet_work.specs.Settings.{listSpeed, goodList, speedWork, loadWork}
 use Rattle.packet_work.proofs.SettingLaws.{good-speed}
-use Rattle.packet_parts.proofs.VerdictLaws.{Modest}
 use Rattle.stream_parts.specs.Replies.{positionLength, streamInquiry, modeBytes, positionBytes, modeLength, hasPage, modePage}
 use Rattle.stream.specs.Packet.{streamDevice, packetStep}
 use Rattle.stream_parts.specs.Requests.{requestOf, spaceCode, isBack, overBlocks, toEndOfData, magnitude}
@@ -62,7 +61,7 @@ use Rattle.packet_laws.proofs.Endings.{senseOf, ends-is}
 use Rattle.packet_laws.proofs.Replies.{first-length}
 use Rattle.packet_laws.proofs.Ways.{Way, cut, broken, unruly, short, ends-early, works, way}
 use Rattle.stream_laws.specs.Words.{storesOn, stores, Untouched}
-use Rattle.stream_laws.proofs.Endings.{ending-modest, write-modest}
+use Rattle.stream_laws.proofs.Endings.{Modest, ending-modest, write-modest}
 
 -- the outcome of a packet that is not refused: the record it leaves is in rule, and its numbers go by what was asked for
 pub record Accepted (h : Header) (q : Request) (x : Outcome) : Type 0 where
@@ -341,7 +340,7 @@ module _ (s : List ℕ) (st : State) (packet buf : List ℕ) where
   accepted-by (broken t b) e = absurd (omega arith)
   accepted-by (unruly t g b) e = absurd (omega arith)
   accepted-by (short p f l) e = absurd (omega arith)
-  accepted-by (ends-early p x f k) e = early-leaves s st (requestOf packet) buf (p .good) (p .ruly) (stores packet) (gives (requestOf packet .command)) x k
+  accepted-by (ends-early p x f k) e = early-leaves s st (requestOf packet) buf (p .good) (p .ruly) (stores packet) (gives (requestOf packet .command)) x (omega (arith, k))
   accepted-by (works p f l) e = work-leaves s st (requestOf packet) buf (p .good) (p .ruly) (requestOf packet .command) l
 
   pub accepted-leaves : numberOf (packetStep s st packet buf) ≡ 0 → LeavesSo (packetStep s st packet buf)
