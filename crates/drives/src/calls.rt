@@ -49,7 +49,7 @@ fn answered(answer: [u8; 8], before: Drive, after: [u8; 32]) -> Drive {
 }
 
 pub fn power_on(vendor: u16, rom: u8) -> Drive {
-    show::number(b" power-on vendor ", vendor as usize);
+    show::number(b" power-on vendor ", vendor as u32);
     show::small(b" ROM ", rom);
     fresh(vendor, rom)
 }
@@ -59,7 +59,7 @@ pub fn train(drive: Drive, pulses: u16, twos: u8) -> Drive {
     let mut state = drive.state;
     let mut answer = [0u8; 8];
     tapecard_pulse_train(&mut state, pulses, &mut answer);
-    show::number(b" train ", pulses as usize);
+    show::number(b" train ", pulses as u32);
     let asked = answered(answer, drive, state);
     if twos > 0 {
         show::text(b", then");
@@ -121,7 +121,7 @@ pub fn wait(drive: Drive, limit: u32) -> Drive {
     let mut state = drive.state;
     let mut answer = [0u8; 8];
     tapecard_pulse_wait(&mut state, limit, &mut answer);
-    show::number(b" wait ", limit as usize);
+    show::number(b" wait ", limit);
     let next = answered(answer, drive, state);
     show_ticks(answer);
     next

@@ -1,6 +1,7 @@
 // The record: its parts by name, or its bytes.
 use crate::calls::Drive;
 use lines::show;
+use numbers::counts::count2;
 
 fn show_motion(motion: u8) {
     match motion {
@@ -19,8 +20,8 @@ fn show_marks(marks: u8) {
 }
 
 fn show_place(state: [u8; 32]) {
-    show::pair(b" S ", state[8], state[9]);
-    show::pair(b" target ", state[10], state[11]);
+    show::number(b" S ", count2(&state, 8) as u32);
+    show::number(b" target ", count2(&state, 10) as u32);
 }
 
 fn show_settings(state: [u8; 32]) {

@@ -43,12 +43,12 @@ fn inserted(drive: Drive, bytes: Bytes) -> Drive {
 
 fn trained(drive: Drive, bytes: Bytes) -> Drive {
     let v = bytes.values;
-    calls::train(drive, place_of(bytes) as u16, v[2])
+    calls::train(drive, place_of(bytes), v[2])
 }
 
 fn powered(bytes: Bytes) -> Drive {
     let v = bytes.values;
-    calls::power_on(place_of(bytes) as u16, v[2])
+    calls::power_on(place_of(bytes), v[2])
 }
 
 fn waited(drive: Drive, bytes: Bytes) -> Drive {

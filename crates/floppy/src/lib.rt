@@ -15,8 +15,8 @@ use floppy_parts::settings::tape_after;
 use floppy_parts::tape::Floppy;
 use floppy_parts::tape::FloppyOutcome;
 use floppy_parts::tape::Tape;
+use floppy_parts::tape::end_of;
 use floppy_parts::tape::joined;
-use floppy_parts::tape::product_of;
 use floppy_parts::tape::reset_tape;
 use image::header::Header;
 use image::header::Judged;
@@ -76,7 +76,7 @@ fn decide(
     ensures { λ r. ⌜ leaves r (now (image .exit)) (now (buf .exit))
         ≡ decided floppyDevice (now (image .entry)) h (floppyOf state tape) q (now (buf .entry)) ⌝ }
 {
-    let found = verdict(h, state, product_of(tape), q, buf.len());
+    let found = verdict(h, state, end_of(tape), q, buf.len());
     match found {
         Verdict::Refuses(number) => joined(refuse(state, number), tape),
         Verdict::Ends(sense) => joined(end_before(state, sense), tape),

@@ -15,6 +15,7 @@ use floppy_parts::replies::TAPE_PAGE;
 use floppy_parts::replies::tape_mode;
 use floppy_parts::settings::is_good_tape_list;
 use floppy_parts::tape::Tape;
+use floppy_parts::tape::end_of;
 use floppy_parts::tape::listed_tape;
 use floppy_parts::tape::product_of;
 use image::header::Header;
@@ -47,7 +48,7 @@ use transfer::writing::write_blocks;
 
 // ---- 08h, 0Ah
 
-fn without_one(left: usize) -> usize
+fn without_one(left: u32) -> u32
     ensures { λ r. ⌜ r ≡ left - 1 ⌝ }
 {
     if left == 0 {
@@ -57,7 +58,7 @@ fn without_one(left: usize) -> usize
 }
 
 // 02, A1: "Its residue on an unreadable block leaves out the block in error", and a filemark "counts as unreadable". "W plays no part": no EOM.
-fn read_ending(stop: Stop, left: usize) -> Ending
+fn read_ending(stop: Stop, left: u32) -> Ending
     ensures { λ r. ⌜ r ≡ readEnding stop left ⌝ }
 {
     match stop {
@@ -69,14 +70,14 @@ fn read_ending(stop: Stop, left: usize) -> Ending
     }
 }
 
-fn read(image: &[u8], h: Header, end: usize, state: State, asked: u8, buf: &mut [u8]) -> Outcome
+fn read(image: &[u8], h: Header, end: u32, state: State, asked: u8, buf: &mut [u8]) -> Outcome
     requires { ⌜ headerOf (now image) ≡ Good h ⌝ }
     requires { ⌜ end ≤ h .capacity ⌝ }
     requires { ⌜ state .position ≤ end ⌝ }
     requires { ⌜ asked * h .size ≤ length (now buf) ⌝ }
     ensures { λ r. ⌜ done r (now (image .entry)) (now (buf .exit)) ≡ readWork (now (image .entry)) h end state asked (now (buf .entry)) ⌝ }
 {
-    let n = asked as usize;
+    let n = asked as u32;
     let p = state.position;
     let size = h.size;
     let moved = read_blocks(image, size, h.kinds, h.blocks, end, buf, n, p);
@@ -85,7 +86,7 @@ fn read(image: &[u8], h: Header, end: usize, state: State, asked: u8, buf: &mut 
     end_moved(state, n, size, moved, ending)
 }
 
-fn write_ending(left: usize) -> Ending
+fn write_ending(left: u32) -> Ending
     ensures { λ r. ⌜ r ≡ writeEnding left ⌝ }
 {
     let short = 1 <= left;
@@ -96,14 +97,14 @@ fn write_ending(left: usize) -> Ending
 }
 
 // 02, A1: "a write leaves U".
-fn write(image: &mut [u8], h: Header, end: usize, state: State, asked: u8, buf: &[u8]) -> Outcome
+fn write(image: &mut [u8], h: Header, end: u32, state: State, asked: u8, buf: &[u8]) -> Outcome
     requires { ⌜ headerOf (now image) ≡ Good h ⌝ }
     requires { ⌜ end ≤ h .capacity ⌝ }
     requires { ⌜ state .position ≤ end ⌝ }
     requires { ⌜ asked * h .size ≤ length (now buf) ⌝ }
     ensures { λ r. ⌜ done r (now (image .exit)) (now (buf .entry)) ≡ writeWork (now (image .entry)) h end state asked (now (buf .entry)) ⌝ }
 {
-    let n = asked as usize;
+    let n = asked as u32;
     let p = state.position;
     let size = h.size;
     let moved = write_blocks(image, size, h.kinds, h.blocks, end, buf, n, p);
@@ -124,10 +125,10 @@ fn mode_sense(h: Header, state: State, tape: Tape, q: Request, buf: &mut [u8]) -
     ensures { λ r. ⌜ r ≡ replyEnds (modeBytes h state tape q) (q .length) state ⌝ }
     ensures { λ _. ⌜ now (buf .exit) ≡ repliedInto (modeBytes h state tape q) (q .length) (now (buf .entry)) ⌝ }
 {
-    let asked = q.length as usize;
+    let asked = q.length;
     let device = q.page % 64 == DEVICE_PAGE;
     if device {
-        let bytes = device_mode(h, state.speed, FLOPPY_MODE, tape.bseg as usize);
+        let bytes = device_mode(h, state.speed, FLOPPY_MODE, tape.bseg as u16);
         return reply(&bytes, asked, state, buf);
     }
     let parameters = q.page % 64 == TAPE_PAGE;
@@ -142,10 +143,10 @@ fn mode_sense(h: Header, state: State, tape: Tape, q: Request, buf: &mut [u8]) -
 // ---- 15h
 
 // 02, A1: "one that puts it below P sets P 0".
-fn place_under(end: usize, p: usize) -> usize
+fn place_under(end: u64, p: u32) -> u32
     ensures { λ r. ⌜ r ≡ placeUnder end p ⌝ }
 {
-    let beyond = end < p;
+    let beyond = end < p as u64;
     if beyond {
         return 0;
     }
@@ -160,7 +161,7 @@ fn select_tape(h: Header, state: State, list: &[u8]) -> Outcome
     if good {
         let listed = product_of(listed_tape(list));
         let place = place_under(listed, state.position);
-        return end(stand_at(state, place), Ending::Good, 0, TAPE_LIST);
+        return end(stand_at(state, place), Ending::Good, 0, TAPE_LIST as u32);
     }
     end(state, Ending::Check(wrong_list()), 0, 0)
 }
@@ -178,7 +179,7 @@ fn mode_select(h: Header, state: State, asked: u8, list: &[u8]) -> Outcome
     if parameters {
         return select_tape(h, state, list);
     }
-    end(state, Ending::Good, 0, n)
+    end(state, Ending::Good, 0, asked as u32)
 }
 
 // ---- by command
@@ -196,7 +197,7 @@ pub fn work(
     ensures { λ r. ⌜ done r (now (image .exit)) (now (buf .exit)) ≡ workOf (q .command) (now (image .entry)) h state tape q (now (buf .entry)) ⌝ }
 {
     let command = q.command;
-    let last = product_of(tape);
+    let last = end_of(tape);
     match command {
         Command::RequestSense => request_sense(state, q.length, buf),
         Command::Read => read(image, h, last, state, q.length, buf),

@@ -40,7 +40,7 @@ fn bad_page(page: u8) -> bool
     !((page == HEADER_ALONE) | (page == DEVICE_PAGE) | (page == TAPE_PAGE))
 }
 
-fn asked_by(command: Command, h: Header, end: usize, q: Request) -> Asked
+fn asked_by(command: Command, h: Header, end: u32, q: Request) -> Asked
     requires { ⌜ h .size ≤ 1024 ⌝ }
     ensures { λ r. ⌜ r ≡ askedBy command h end q ⌝ }
 {
@@ -48,8 +48,8 @@ fn asked_by(command: Command, h: Header, end: usize, q: Request) -> Asked
     match command {
         Command::TestUnitReady => on_tape(false, 0),
         Command::RequestSense => always(least(n, SENSE_LENGTH)),
-        Command::Read => on_tape(!is_set(q.flags, 1), transfer_bytes(n, h.size)),
-        Command::Write => storing(!is_set(q.flags, 1), transfer_bytes(n, h.size)),
+        Command::Read => on_tape(!is_set(q.flags, 1), transfer_bytes(q.length as u32, h.size)),
+        Command::Write => storing(!is_set(q.flags, 1), transfer_bytes(q.length as u32, h.size)),
         Command::WriteFilemarks => storing(false, 0),
         Command::Inquiry => always(least(n, INQUIRY_LENGTH)),
         Command::ModeSelect => settings(false, bad_length(n), n),
@@ -60,7 +60,7 @@ fn asked_by(command: Command, h: Header, end: usize, q: Request) -> Asked
     }
 }
 
-pub fn verdict(h: Header, state: State, end: usize, q: Request, room: usize) -> Verdict
+pub fn verdict(h: Header, state: State, end: u32, q: Request, room: usize) -> Verdict
     requires { ⌜ h .size ≤ 1024 ⌝ }
     ensures { λ r. ⌜ r ≡ verdictBy (askedBy (q .command) h end q) (isProtected h) state room ⌝ }
 {

@@ -46,8 +46,8 @@ pub fn tape_page(tape: Tape) -> [u8; 16]
     bytes[2] = x.density;
     bytes[4] = x.fill;
     bytes[5] = tape.bseg;
-    put_count2(&mut bytes, 6, tape.segtrk as usize);
-    put_count2(&mut bytes, 8, tape.trks as usize);
+    put_count2(&mut bytes, 6, tape.segtrk);
+    put_count2(&mut bytes, 8, tape.trks);
     bytes[10] = x.sector;
     bytes[11] = x.cylinder;
     bytes[12] = x.head;

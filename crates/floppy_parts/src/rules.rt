@@ -13,5 +13,5 @@ pub fn keeps_floppy_rules(h: Header, floppy: Floppy) -> bool
     let tape = floppy.tape;
     let end = product_of(tape);
     let ruly = keeps_record_rules(h.recorded, shared);
-    ruly & (end <= h.capacity) & (shared.position <= end)
+    ruly & (end <= h.capacity as u64) & (shared.position as u64 <= end)
 }

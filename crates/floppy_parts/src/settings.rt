@@ -25,7 +25,7 @@ pub fn is_good_tape_list(h: Header, list: &[u8]) -> bool
     let listed = product_of(listed_tape(list));
     (list[SHORT_LIST] == TAPE_PAGE)
         & (list[SHORT_LIST + 1] == TAPE_PAGE_LENGTH)
-        & (listed <= h.capacity)
+        & (listed <= h.capacity as u64)
 }
 
 fn selected_tape(h: Header, tape: Tape, asked: u8, list: &[u8]) -> Tape

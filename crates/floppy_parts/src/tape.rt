@@ -39,17 +39,25 @@ pub struct FloppyOutcome {
     pub state: Floppy,
 }
 
-// BSEG*SEGTRK*TRKS reaches 1,095,183,237,375: more than 32 bits, and no overflow.
-fn blocks_of(bseg: u8, segtrk: u16, trks: u16) -> usize
+// BSEG*SEGTRK*TRKS reaches 1,095,183,237,375 and passes 32 bits, so it is a product of 64.
+fn blocks_of(bseg: u8, segtrk: u16, trks: u16) -> u64
     ensures { λ r. ⌜ r ≡ bseg * segtrk * trks ⌝ }
 {
-    bseg as usize * segtrk as usize * trks as usize
+    bseg as u64 * segtrk as u64 * trks as u64
 }
 
-pub fn product_of(tape: Tape) -> usize
+pub fn product_of(tape: Tape) -> u64
     ensures { λ r. ⌜ r ≡ product tape ⌝ }
 {
     blocks_of(tape.bseg, tape.segtrk, tape.trks)
+}
+
+// Where the product is the end of a tape: within the elements of an image, so within 32 bits.
+pub fn end_of(tape: Tape) -> u32
+    requires { ⌜ product tape ≤ 65535 ⌝ }
+    ensures { λ r. ⌜ r ≡ product tape ⌝ }
+{
+    product_of(tape) as u32
 }
 
 pub fn flags_byte(x: Reported) -> u8
@@ -73,7 +81,7 @@ pub fn reported_of(density: u8, fill: u8, sector: u8, cylinder: u8, head: u8, fl
     }
 }
 
-pub fn reset_tape(capacity: usize) -> Tape
+pub fn reset_tape(capacity: u32) -> Tape
     requires { ⌜ capacity ≤ 65535 ⌝ }
     ensures { λ r. ⌜ r ≡ resetTape capacity ⌝ }
 {
@@ -94,8 +102,8 @@ pub fn listed_tape(list: &[u8]) -> Tape
     let reported = reported_of(list[14], list[16], list[22], list[23], list[24], list[27]);
     Tape {
         bseg: list[17],
-        segtrk: count2(list, 18) as u16,
-        trks: count2(list, 20) as u16,
+        segtrk: count2(list, 18),
+        trks: count2(list, 20),
         reported,
     }
 }

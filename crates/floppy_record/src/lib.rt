@@ -28,8 +28,8 @@ fn decode_tape(bytes: &[u8]) -> Tape
     );
     Tape {
         bseg: bytes[18],
-        segtrk: count2(bytes, 20) as u16,
-        trks: count2(bytes, 22) as u16,
+        segtrk: count2(bytes, 20),
+        trks: count2(bytes, 22),
         reported,
     }
 }
@@ -51,8 +51,8 @@ fn encode_tape(tape: Tape) -> [u8; 16]
     bytes[1] = x.fill;
     bytes[2] = tape.bseg;
     bytes[3] = flags;
-    put_count2(&mut bytes, 4, tape.segtrk as usize);
-    put_count2(&mut bytes, 6, tape.trks as usize);
+    put_count2(&mut bytes, 4, tape.segtrk);
+    put_count2(&mut bytes, 6, tape.trks);
     bytes[8] = x.sector;
     bytes[9] = x.cylinder;
     bytes[10] = x.head;

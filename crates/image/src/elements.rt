@@ -20,11 +20,11 @@ const FILEMARK: u8 = 2;
 
 const RECORDED_FIELD: usize = 8;
 
-pub fn kind_at(image: &[u8], kinds: usize, i: usize) -> Kind
+pub fn kind_at(image: &[u8], kinds: u32, i: u32) -> Kind
     requires { ⌜ kinds + i < length (now image) ⌝ }
     ensures { λ r. ⌜ r ≡ kindAt (now (image .entry)) kinds i ⌝ }
 {
-    match image[kinds + i] {
+    match image[kinds as usize + i as usize] {
         1 => Kind::Data,
         2 => Kind::Filemark,
         _ => Kind::Unreadable,
@@ -54,10 +54,10 @@ pub fn is_filemark(kind: Kind) -> bool
 // The block that stands in src from place off on becomes element i.
 pub fn lay_block(
     image: &mut [u8],
-    size: usize,
-    kinds: usize,
-    blocks: usize,
-    i: usize,
+    size: u16,
+    kinds: u32,
+    blocks: u32,
+    i: u32,
     src: &[u8],
     off: usize,
 )
@@ -68,22 +68,22 @@ pub fn lay_block(
     requires { ⌜ off + size ≤ length (now src) ⌝ }
     ensures { λ _. ⌜ now (image .exit) ≡ layBlock (now (image .entry)) size kinds blocks i (part (now (src .entry)) off size) ⌝ }
 {
-    let from = blocks + span(i, size);
-    let to = off + size;
+    let from = blocks as usize + span(i, size) as usize;
+    let to = off + size as usize;
     copy_block(&mut image[from..], &src[off..to]);
-    image[kinds + i] = DATA;
+    image[kinds as usize + i as usize] = DATA;
 }
 
 // A filemark becomes element i; no block's bytes change.
-pub fn lay_mark(image: &mut [u8], kinds: usize, i: usize)
+pub fn lay_mark(image: &mut [u8], kinds: u32, i: u32)
     requires { ⌜ kinds + i < length (now image) ⌝ }
     ensures { λ _. ⌜ now (image .exit) ≡ layMark (now (image .entry)) kinds i ⌝ }
 {
-    image[kinds + i] = FILEMARK;
+    image[kinds as usize + i as usize] = FILEMARK;
 }
 
 // Where a run from place p stored something, the elements up to its new place are those recorded.
-pub fn record_to(image: &mut [u8], p: usize, place: usize)
+pub fn record_to(image: &mut [u8], p: u32, place: u32)
     requires { ⌜ 12 ≤ length (now image) ⌝ }
     ensures { λ _. ⌜ now (image .exit) ≡ recordTo (now (image .entry)) p place ⌝ }
 {

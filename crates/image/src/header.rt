@@ -1,6 +1,6 @@
 // 01, "The cartridge image": the header, read from every slice and judged.
 ghost use mathlib.Core.Path.{_≡_};
-ghost use Prim.Native.Nat.{_*_, _^_, _≤_, _<_};
+ghost use Prim.Native.Nat.{_*_, _≤_};
 ghost use lib.ListN.{length};
 ghost use Rattle.numbers.specs.Member.{isIn};
 ghost use Rattle.numbers.specs.RuleList.{allHold};
@@ -9,12 +9,12 @@ use numbers::counts::count2;
 use numbers::counts::count4;
 
 pub struct Header {
-    pub size: usize, // B, bytes of a block
-    pub capacity: usize, // C, elements
-    pub recorded: usize, // U, elements recorded
-    pub kinds: usize, // K, where the kind table starts
-    pub blocks: usize, // D, where the blocks start
-    pub warning: usize, // W, early warning
+    pub size: u16, // B, bytes of a block
+    pub capacity: u32, // C, elements
+    pub recorded: u32, // U, elements recorded
+    pub kinds: u32, // K, where the kind table starts
+    pub blocks: u32, // D, where the blocks start
+    pub warning: u16, // W, early warning
     pub protect: u8, // 1 where the cartridge is write protected
     pub medium: u8, // medium type
 }
@@ -27,17 +27,17 @@ pub enum Judged {
 
 const HEADER_LENGTH: usize = 32;
 
-const MOST_ELEMENTS: usize = 65535;
+const MOST_ELEMENTS: u32 = 65535;
 
-// Elements and bytes of a block within their bounds make at most 67,107,840 bytes: more than 16 bits, and no overflow.
-pub fn span(elements: usize, size: usize) -> usize
+// Elements and bytes of a block within their bounds make at most 67,107,840 bytes: no more than 32 bits.
+pub fn span(elements: u32, size: u16) -> u32
     requires { ⌜ (elements ≤ 65535) × (size ≤ 1024) ⌝ }
     ensures { λ r. ⌜ (r ≡ elements * size) × (r ≤ 67107840) ⌝ }
 {
-    elements * size
+    elements * size as u32
 }
 
-fn is_block_size(size: usize) -> bool
+fn is_block_size(size: u16) -> bool
     ensures { λ r. ⌜ r ≡ isIn size blockSizes ⌝ }
 {
     (512 == size) | (1024 == size)
@@ -45,7 +45,7 @@ fn is_block_size(size: usize) -> bool
 
 fn fields(image: &[u8]) -> Header
     requires { ⌜ 32 ≤ length (now image) ⌝ }
-    ensures { λ r. ⌜ (r ≡ fieldsOf (now (image .entry))) × ((r .kinds < 2 ^ 32) × (r .blocks < 2 ^ 32)) ⌝ }
+    ensures { λ r. ⌜ r ≡ fieldsOf (now (image .entry)) ⌝ }
 {
     Header {
         size: count2(image, 2),
@@ -65,7 +65,7 @@ fn has_fixed_bytes(image: &[u8]) -> bool
     if image.len() < HEADER_LENGTH {
         return false;
     }
-    if count2(image, 0) != HEADER_LENGTH {
+    if count2(image, 0) as usize != HEADER_LENGTH {
         return false;
     }
     if count4(image, 24) != 0 {
@@ -93,27 +93,26 @@ fn keeps_ranges(h: Header) -> bool
     if h.protect > 1 {
         return false;
     }
-    if h.warning > capacity {
+    if h.warning as u32 > capacity {
         return false;
     }
     is_block_size(h.size)
 }
 
-// K + C and D + C*B pass 32 bits, so they are summed in 64.
+// K + C and D + C*B can pass 32 bits, so they are summed in the 64 of a place in the image.
 fn keeps_places(h: Header, n: usize) -> bool
-    requires { ⌜ ((h .capacity ≤ 65535) × (h .size ≤ 1024)) × ((h .kinds < 2 ^ 32) × (h .blocks < 2 ^ 32)) ⌝ }
+    requires { ⌜ (h .capacity ≤ 65535) × (h .size ≤ 1024) ⌝ }
     ensures { λ r. ⌜ r ≡ allHold (placeRules h n) ⌝ }
 {
-    let capacity = h.capacity;
-    let kinds = h.kinds;
-    let blocks = h.blocks;
+    let kinds = h.kinds as usize;
+    let blocks = h.blocks as usize;
     if kinds < HEADER_LENGTH {
         return false;
     }
-    if kinds + capacity > blocks {
+    if kinds + h.capacity as usize > blocks {
         return false;
     }
-    if blocks + span(capacity, h.size) > n {
+    if blocks + span(h.capacity, h.size) as usize > n {
         return false;
     }
     true

@@ -1,6 +1,7 @@
 // A line of a script: where it ends, and the bytes in hexadecimal after its letter.
 ghost use Prim.Native.Nat.{_≤_, _<_};
 ghost use lib.ListN.{length};
+use numbers::counts::pair;
 use numbers::sizes::least;
 
 const MOST: usize = 40;
@@ -112,7 +113,7 @@ fn put(dst: &mut [u8], at: usize, value: u8) {
 
 // The bytes from the third on, stored at the place that the first two name, as far as they fit.
 pub fn store(dst: &mut [u8], bytes: Bytes) {
-    let at = place_of(bytes);
+    let at = place_of(bytes) as usize;
     let values = bytes.values;
     let n = least(bytes.count, MOST);
     let mut k: usize = 2;
@@ -123,27 +124,19 @@ pub fn store(dst: &mut [u8], bytes: Bytes) {
 }
 
 // What the first two bytes spell.
-pub fn place_of(bytes: Bytes) -> usize
-    ensures { λ r. ⌜ r ≤ 65535 ⌝ }
-{
+pub fn place_of(bytes: Bytes) -> u16 {
     let values = bytes.values;
-    wide(values[0]) * 256 + wide(values[1])
+    pair(values[0], values[1])
 }
 
 // Whether what `store` stores lies within so many bytes.
 pub fn stores_within(bytes: Bytes, size: u16) -> bool {
-    place_of(bytes) + least(bytes.count, MOST) <= size as usize + 2
+    place_of(bytes) as usize + least(bytes.count, MOST) <= size as usize + 2
 }
 
 pub fn first_eight(bytes: Bytes) -> [u8; 8] {
     let v = bytes.values;
     [v[0], v[1], v[2], v[3], v[4], v[5], v[6], v[7]]
-}
-
-pub fn wide(byte: u8) -> usize
-    ensures { λ r. ⌜ r ≤ 255 ⌝ }
-{
-    byte as usize
 }
 
 // Whether a line of this length ends with the last of so many bytes: the letter is one character, a byte three with the space before it.

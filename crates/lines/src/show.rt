@@ -1,9 +1,8 @@
 // Text and bytes on standard output.
-ghost use Prim.Native.Nat.{_<_};
+ghost use Prim.Native.Nat.{_<_, _≤_};
 use crate::line::Bytes;
 use crate::line::letter_of;
 use crate::line::place_of;
-use crate::line::wide;
 use libc::STDOUT_FILENO;
 use numbers::flags::is_set;
 use numbers::sizes::least;
@@ -12,19 +11,14 @@ pub fn text(words: &[u8]) {
     io::write_all(STDOUT_FILENO, words);
 }
 
-pub fn number(label: &[u8], n: usize) {
+pub fn number(label: &[u8], n: u32) {
     text(label);
     io::print_decimal(STDOUT_FILENO, n as u64);
 }
 
 // A number of one byte.
 pub fn small(label: &[u8], n: u8) {
-    number(label, wide(n));
-}
-
-// A number of two bytes, the high one first.
-pub fn pair(label: &[u8], high: u8, low: u8) {
-    number(label, wide(high) * 256 + wide(low));
+    number(label, n as u32);
 }
 
 // The word where the bit of this weight is set.
@@ -71,10 +65,16 @@ pub fn list(label: &[u8], values: &[u8]) {
     bytes(values);
 }
 
+fn wide(byte: u8) -> usize
+    ensures { λ r. ⌜ r ≤ 255 ⌝ }
+{
+    byte as usize
+}
+
 // As many bytes as the third one says, from that place on.
 pub fn part(src: &[u8], asked: Bytes) {
     let values = asked.values;
-    let from = least(place_of(asked), src.len());
+    let from = least(place_of(asked) as usize, src.len());
     let to = least(from + wide(values[2]), src.len());
     if from <= to {
         bytes(&src[from..to]);

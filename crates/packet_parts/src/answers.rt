@@ -27,7 +27,7 @@ pub fn refuse(state: State, number: u8) -> Outcome
     Outcome { answer, state }
 }
 
-fn answer_of(status: u8, blocks: usize, bytes: usize) -> Answer
+fn answer_of(status: u8, blocks: u32, bytes: u32) -> Answer
     ensures { λ r. ⌜ r ≡ answered status blocks bytes ⌝ }
 {
     Answer {
@@ -49,7 +49,7 @@ pub fn end_before(state: State, sense: Sense) -> Outcome
     }
 }
 
-fn answer_with(state: State, status: u8, sense: Sense, blocks: usize, bytes: usize) -> Outcome
+fn answer_with(state: State, status: u8, sense: Sense, blocks: u32, bytes: u32) -> Outcome
     ensures { λ r. ⌜ r ≡ answeredWith state status sense blocks bytes ⌝ }
 {
     let answer = answer_of(status, blocks, bytes);
@@ -60,7 +60,7 @@ fn answer_with(state: State, status: u8, sense: Sense, blocks: usize, bytes: usi
     }
 }
 
-pub fn end(state: State, ending: Ending, blocks: usize, bytes: usize) -> Outcome
+pub fn end(state: State, ending: Ending, blocks: u32, bytes: u32) -> Outcome
     ensures { λ r. ⌜ r ≡ ends state ending blocks bytes ⌝ }
 {
     match ending {

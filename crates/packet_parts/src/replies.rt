@@ -107,7 +107,7 @@ pub fn mode_header(h: Header, after: u8) -> [u8; 12]
 }
 
 // Byte 4 and bytes 12-13 are the device's own.
-pub fn device_page(h: Header, speed: u16, byte4: u8, unit: usize) -> [u8; 20]
+pub fn device_page(h: Header, speed: u16, byte4: u8, unit: u16) -> [u8; 20]
     ensures { λ r. ⌜ r ≡ devicePageBytes h speed byte4 unit ⌝ }
 {
     let long_blocks = weight_of(h.size == 1024, 0x04);
@@ -119,17 +119,17 @@ pub fn device_page(h: Header, speed: u16, byte4: u8, unit: usize) -> [u8; 20]
     bytes[7] = long_blocks;
     put_count2(&mut bytes, 8, 500);
     put_count2(&mut bytes, 12, unit);
-    put_count2(&mut bytes, 14, speed as usize);
+    put_count2(&mut bytes, 14, speed);
     put_count2(&mut bytes, 16, 128);
     bytes
 }
 
 // The first of some bytes go to the start of the host's buffer.
-pub fn reply(bytes: &[u8], asked: usize, state: State, buf: &mut [u8]) -> Outcome
+pub fn reply(bytes: &[u8], asked: u8, state: State, buf: &mut [u8]) -> Outcome
     requires { ⌜ min asked (length (now bytes)) ≤ length (now buf) ⌝ }
     ensures { λ r. ⌜ (r ≡ replyEnds (now (bytes .entry)) asked state) × (now (buf .exit) ≡ repliedInto (now (bytes .entry)) asked (now (buf .entry))) ⌝ }
 {
-    let n = least(asked, bytes.len());
+    let n = least(asked as usize, bytes.len());
     copy_block(buf, &bytes[..n]);
-    end(state, Ending::Good, 0, n)
+    end(state, Ending::Good, 0, n as u32)
 }

@@ -11,8 +11,8 @@ pub struct Request {
     pub command: Command,
     pub flags: u8, // byte 1
     pub page: u8, // byte 2
-    pub count: usize, // bytes 2-4
-    pub target: usize, // bytes 3-6
+    pub count: u32, // bytes 2-4
+    pub target: u32, // bytes 3-6
     pub length: u8, // byte 4
 }
 
@@ -30,10 +30,10 @@ pub fn request_under(command: Command, packet: &[u8]) -> Request
     }
 }
 
-// N*B reaches 17,179,868,160: more than 32 bits, and no overflow.
-pub fn transfer_bytes(count: usize, size: usize) -> usize
+// N*B reaches 17,179,868,160 and passes 32 bits, so it is a product of 64.
+pub fn transfer_bytes(count: u32, size: u16) -> usize
     requires { ⌜ (count < 2 ^ 24) × (size ≤ 1024) ⌝ }
     ensures { λ r. ⌜ r ≡ count * size ⌝ }
 {
-    count * size
+    count as usize * size as usize
 }

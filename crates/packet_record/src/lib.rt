@@ -52,7 +52,7 @@ pub fn decode_state(bytes: &[u8]) -> State
         position: count4(bytes, 0),
         loaded: is_set(bytes[4], 1),
         attention: attention_of(bytes[5]),
-        speed: count2(bytes, 6) as u16,
+        speed: count2(bytes, 6),
         sense,
     }
 }
@@ -67,7 +67,7 @@ pub fn encode_state(state: State) -> [u8; 16]
     put_count4(&mut bytes, 0, state.position);
     bytes[4] = weight_of(state.loaded, 1);
     bytes[5] = attention_byte(attention);
-    put_count2(&mut bytes, 6, state.speed as usize);
+    put_count2(&mut bytes, 6, state.speed);
     bytes[8] = sense.key;
     bytes[9] = sense.asc;
     bytes[10] = sense.ascq;

@@ -15,7 +15,7 @@ pub fn is_speed(speed: u16) -> bool
     is_in(speed, &SPEEDS)
 }
 
-pub fn keeps_record_rules(end: usize, state: State) -> bool
+pub fn keeps_record_rules(end: u32, state: State) -> bool
     ensures { λ r. ⌜ r ≡ keepsRecordRules end state ⌝ }
 {
     let speed = state.speed;

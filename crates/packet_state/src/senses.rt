@@ -36,7 +36,7 @@ fn plain_sense(key: u8, asc: u8, ascq: u8) -> Sense
     }
 }
 
-fn stop_sense(key: u8, asc: u8, ascq: u8, filemark: bool, eom: bool, left: usize) -> Sense
+fn stop_sense(key: u8, asc: u8, ascq: u8, filemark: bool, eom: bool, left: u32) -> Sense
     ensures { λ r. ⌜ r ≡ stopped key asc ascq filemark eom left ⌝ }
 {
     Sense {
@@ -96,25 +96,25 @@ pub fn write_protected() -> Sense
     plain_sense(DATA_PROTECT, 0x27, 0x00)
 }
 
-pub fn filemark_detected(left: usize) -> Sense
+pub fn filemark_detected(left: u32) -> Sense
     ensures { λ r. ⌜ r ≡ filemarkDetected left ⌝ }
 {
     stop_sense(NO_SENSE, 0x00, 0x01, true, false, left)
 }
 
-pub fn unreadable_block(left: usize) -> Sense
+pub fn unreadable_block(left: u32) -> Sense
     ensures { λ r. ⌜ r ≡ unreadableBlock left ⌝ }
 {
     stop_sense(MEDIUM_ERROR, 0x11, 0x00, false, false, left)
 }
 
-pub fn end_of_data(eom: bool, left: usize) -> Sense
+pub fn end_of_data(eom: bool, left: u32) -> Sense
     ensures { λ r. ⌜ r ≡ endOfData eom left ⌝ }
 {
     stop_sense(BLANK_CHECK, 0x00, 0x05, false, eom, left)
 }
 
-pub fn volume_overflow(left: usize) -> Sense
+pub fn volume_overflow(left: u32) -> Sense
     ensures { λ r. ⌜ r ≡ volumeOverflow left ⌝ }
 {
     stop_sense(VOLUME_OVERFLOW, 0x00, 0x02, false, true, left)
@@ -126,7 +126,7 @@ pub fn early_warning() -> Sense
     stop_sense(NO_SENSE, 0x00, 0x02, false, true, 0)
 }
 
-pub fn beginning_of_tape(left: usize) -> Sense
+pub fn beginning_of_tape(left: u32) -> Sense
     ensures { λ r. ⌜ r ≡ beginningOfTape left ⌝ }
 {
     stop_sense(NO_SENSE, 0x00, 0x04, false, true, left)

@@ -16,11 +16,11 @@ pub struct Sense {
     pub filemark: bool,
     pub eom: bool,
     pub valid: bool,
-    pub information: usize,
+    pub information: u32,
 }
 
 pub struct State {
-    pub position: usize, // P
+    pub position: u32, // P
     pub loaded: bool,
     pub attention: Attention,
     pub speed: u16,
@@ -30,8 +30,8 @@ pub struct State {
 pub struct Answer {
     pub number: u8, // the refusal's number, 0 where the packet is answered
     pub status: u8,
-    pub blocks: usize,
-    pub bytes: usize,
+    pub blocks: u32,
+    pub bytes: u32,
 }
 
 pub struct Outcome {
@@ -54,7 +54,7 @@ pub enum Verdict {
 
 // ---- the record with one part replaced
 
-pub fn stand_at(state: State, place: usize) -> State
+pub fn stand_at(state: State, place: u32) -> State
     ensures { λ r. ⌜ r ≡ atPlace state place ⌝ }
 {
     let mut next = state;

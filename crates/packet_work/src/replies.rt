@@ -24,7 +24,7 @@ pub fn request_sense(state: State, asked: u8, buf: &mut [u8]) -> Outcome
 {
     let sense = state.sense;
     let bytes = sense_bytes(sense);
-    reply(&bytes, asked as usize, state, buf)
+    reply(&bytes, asked, state, buf)
 }
 
 pub fn inquiry(device: u8, state: State, asked: u8, buf: &mut [u8]) -> Outcome
@@ -33,11 +33,11 @@ pub fn inquiry(device: u8, state: State, asked: u8, buf: &mut [u8]) -> Outcome
     ensures { λ _. ⌜ now (buf .exit) ≡ repliedInto (inquiryBytes device) asked (now (buf .entry)) ⌝ }
 {
     let bytes = inquiry_bytes(device);
-    reply(&bytes, asked as usize, state, buf)
+    reply(&bytes, asked, state, buf)
 }
 
 // Header and device page: byte 4 and bytes 12-13 of the page are the device's own.
-pub fn device_mode(h: Header, speed: u16, byte4: u8, unit: usize) -> [u8; 32]
+pub fn device_mode(h: Header, speed: u16, byte4: u8, unit: u16) -> [u8; 32]
     ensures { λ r. ⌜ r ≡ deviceMode h speed byte4 unit ⌝ }
 {
     let header = mode_header(h, AFTER_FULL);

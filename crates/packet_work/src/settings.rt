@@ -25,7 +25,7 @@ fn is_good_list(list: &[u8]) -> bool
     requires { ⌜ 32 ≤ length (now list) ⌝ }
     ensures { λ r. ⌜ r ≡ goodList (now (list .entry)) ⌝ }
 {
-    let known = is_speed(count2(list, LIST_SPEED) as u16);
+    let known = is_speed(count2(list, LIST_SPEED));
     (list[SHORT_LIST] == DEVICE_PAGE) & (list[SHORT_LIST + 1] == DEVICE_PAGE_LENGTH) & known
 }
 
@@ -36,8 +36,8 @@ pub fn select_speed(state: State, list: &[u8]) -> Outcome
 {
     let good = is_good_list(list);
     if good {
-        let speed = count2(list, LIST_SPEED) as u16;
-        return end(with_speed(state, speed), Ending::Good, 0, FULL_LIST);
+        let speed = count2(list, LIST_SPEED);
+        return end(with_speed(state, speed), Ending::Good, 0, FULL_LIST as u32);
     }
     end(state, Ending::Check(wrong_list()), 0, 0)
 }

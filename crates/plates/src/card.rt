@@ -92,8 +92,8 @@ fn show_sense(state: [u8; 16], image: [u8; 2084], lent: usize) {
 }
 
 fn show_answer(answer: [u8; 16], state: [u8; 16], image: &[u8; 2084]) {
-    show::number(b" number ", answer[0] as usize);
-    show::number(b" status ", answer[1] as usize);
+    show::small(b" number ", answer[0]);
+    show::small(b" status ", answer[1]);
     show::number(b" blocks ", count4(&answer, 4));
     show::number(b" bytes ", count4(&answer, 8));
     show::number(b" P ", count4(&state, 0));

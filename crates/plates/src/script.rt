@@ -40,13 +40,15 @@ fn store_in_buffer(card: Card, bytes: Bytes) -> Card {
 
 fn with_room(card: Card, bytes: Bytes) -> Card {
     let mut next = card;
-    next.room = place_of(bytes);
+    let room = place_of(bytes) as usize;
+    next.room = room;
     next
 }
 
 fn with_image(card: Card, bytes: Bytes) -> Card {
     let mut next = card;
-    next.lent = place_of(bytes);
+    let lent = place_of(bytes) as usize;
+    next.lent = lent;
     next
 }
 

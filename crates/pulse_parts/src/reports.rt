@@ -8,6 +8,7 @@ use crate::fault::Fault;
 use crate::head;
 use crate::head::Head;
 use crate::marks::Marks;
+use numbers::counts;
 use numbers::flags;
 
 // The items of a report of eight bits and of sixteen, with the final 1. 01: "report items left <= 17".
@@ -118,9 +119,7 @@ pub fn status_bits(h: Head, f: Fault, m: Marks, c: Cartridge) -> u16
 pub fn error_bits(f: Fault) -> u16
     ensures { λ r. ⌜ r ≡ errorBits f ⌝ }
 {
-    let error = f.error as u16;
-    let command = f.command as u16;
-    error + command * 256
+    counts::pair(f.command, f.error)
 }
 
 pub fn configuration_bits(rate: u8, m: Marks, c: Cartridge) -> u16

@@ -2,11 +2,12 @@
 ghost use mathlib.Core.Path.{_≡_};
 ghost use Prim.Native.Nat.{_+_, _/_, _%_, _^_, _≤_};
 ghost use lib.ListN.{length};
-ghost use Rattle.numbers.specs.Counts.{countAt};
 ghost use Rattle.pulse_record.specs.PulseRecord.{motionOf, motionByte, unsent, waitingOf, waitedCode, waitedHeld, waitedValue};
 ghost use Rattle.pulse_record.specs.PulseRecord.{cartridgeOf, cartridgeByte, describedCartridge, describedPlace, marksOf, marksByte};
 ghost use Rattle.pulse_record.specs.PulseRecord.{cartridgeIn, headIn, reportIn, waitingIn, decodeDrive, encodeDrive, encodeTold};
 use numbers::counts::count2;
+use numbers::counts::high_byte;
+use numbers::counts::low_byte;
 use numbers::counts::put_count4;
 use numbers::flags::is_set;
 use numbers::flags::weight_of;
@@ -132,26 +133,18 @@ fn cartridge_byte(c: Cartridge) -> u8
     weight_of(c.protected, 1) + weight_of(c.burst, 2) + weight_of(c.wide, 4)
 }
 
-// A number of two bytes.
-fn word(bytes: &[u8], at: usize) -> u16
-    requires { ⌜ at + 2 ≤ length (now bytes) ⌝ }
-    ensures { λ r. ⌜ r ≡ countAt (now (bytes .entry)) at 2 ⌝ }
-{
-    count2(bytes, at) as u16
-}
-
 pub fn described_cartridge(bytes: &[u8]) -> Cartridge
     requires { ⌜ 8 ≤ length (now bytes) ⌝ }
     ensures { λ r. ⌜ r ≡ describedCartridge (now (bytes .entry)) ⌝ }
 {
-    cartridge_of(word(bytes, 0), bytes[2], bytes[5], bytes[6], bytes[7])
+    cartridge_of(count2(bytes, 0), bytes[2], bytes[5], bytes[6], bytes[7])
 }
 
 pub fn described_place(bytes: &[u8]) -> u16
     requires { ⌜ 8 ≤ length (now bytes) ⌝ }
     ensures { λ r. ⌜ r ≡ describedPlace (now (bytes .entry)) ⌝ }
 {
-    word(bytes, 3)
+    count2(bytes, 3)
 }
 
 fn marks_of(flags: u8) -> Marks
@@ -179,7 +172,7 @@ fn cartridge_in(bytes: &[u8]) -> Cartridge
     requires { ⌜ 32 ≤ length (now bytes) ⌝ }
     ensures { λ r. ⌜ r ≡ cartridgeIn (now (bytes .entry)) ⌝ }
 {
-    cartridge_of(word(bytes, 2), bytes[4], bytes[5], bytes[6], bytes[7])
+    cartridge_of(count2(bytes, 2), bytes[4], bytes[5], bytes[6], bytes[7])
 }
 
 fn head_in(bytes: &[u8]) -> Head
@@ -187,8 +180,8 @@ fn head_in(bytes: &[u8]) -> Head
     ensures { λ r. ⌜ r ≡ headIn (now (bytes .entry)) ⌝ }
 {
     Head {
-        place: word(bytes, 8),
-        target: word(bytes, 10),
+        place: count2(bytes, 8),
+        target: count2(bytes, 10),
         track: bytes[12],
         motion: motion_of(bytes[1]),
     }
@@ -200,7 +193,7 @@ fn report_in(bytes: &[u8]) -> Report
 {
     Report {
         left: bytes[17],
-        bits: unsent(bytes[17], word(bytes, 18)),
+        bits: unsent(bytes[17], count2(bytes, 18)),
         repeat: is_set(bytes[0], 16),
     }
 }
@@ -209,7 +202,7 @@ fn waiting_in(bytes: &[u8]) -> Waiting
     requires { ⌜ 32 ≤ length (now bytes) ⌝ }
     ensures { λ r. ⌜ r ≡ waitingIn (now (bytes .entry)) ⌝ }
 {
-    waiting_of(bytes[20], bytes[21], word(bytes, 22))
+    waiting_of(bytes[20], bytes[21], count2(bytes, 22))
 }
 
 pub fn decode_drive(bytes: &[u8]) -> Drive
@@ -229,21 +222,9 @@ pub fn decode_drive(bytes: &[u8]) -> Drive
         waiting: waiting_in(bytes),
         rate: bytes[13],
         level: is_set(bytes[16], 1),
-        vendor: word(bytes, 24),
+        vendor: count2(bytes, 24),
         rom: bytes[26],
     }
-}
-
-fn high(number: u16) -> u8
-    ensures { λ r. ⌜ r ≡ number / 256 % 256 ⌝ }
-{
-    (number / 256 % 256) as u8
-}
-
-fn low(number: u16) -> u8
-    ensures { λ r. ⌜ r ≡ number % 256 ⌝ }
-{
-    (number % 256) as u8
 }
 
 // The bytes in their places; those of a case or of an open report come in.
@@ -258,30 +239,30 @@ fn lay_out(d: Drive, motion: u8, bits: u16, code: u8, held: u8, value: u16) -> [
     [
         marks_byte(d.marks, d.report),
         motion,
-        high(d.cart.segments),
-        low(d.cart.segments),
+        high_byte(d.cart.segments),
+        low_byte(d.cart.segments),
         d.cart.tracks,
         cartridge_byte(d.cart),
         d.cart.format,
         d.cart.kind,
-        high(d.head.place),
-        low(d.head.place),
-        high(d.head.target),
-        low(d.head.target),
+        high_byte(d.head.place),
+        low_byte(d.head.place),
+        high_byte(d.head.target),
+        low_byte(d.head.target),
         d.head.track,
         d.rate,
         d.fault.error,
         d.fault.command,
         weight_of(d.level, 1),
         d.report.left,
-        high(bits),
-        low(bits),
+        high_byte(bits),
+        low_byte(bits),
         code,
         held,
-        high(value),
-        low(value),
-        high(d.vendor),
-        low(d.vendor),
+        high_byte(value),
+        low_byte(value),
+        high_byte(d.vendor),
+        low_byte(d.vendor),
         d.rom,
         0,
         0,
@@ -311,6 +292,6 @@ pub fn encode_told(number: u8, level: bool, ticks: u32) -> [u8; 8]
     let mut bytes = [0; 8];
     bytes[0] = number;
     bytes[1] = weight_of(level, 1);
-    put_count4(&mut bytes, 4, ticks as usize);
+    put_count4(&mut bytes, 4, ticks);
     bytes
 }

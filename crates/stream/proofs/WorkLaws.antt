@@ -3,7 +3,7 @@
 use mathlib.Core.Path.{_≡_, ap}
 use mathlib.Core.Bool.{Bool, true, false}
 use mathlib.Core.List.{List, _++_}
-use Prim.Native.Nat.{ℕ, _≤_}
+use Prim.Native.Nat.{ℕ, _-_, _≤_}
 use Rattle.image.specs.declared.header.Header.{Header}
 use Rattle.image.specs.Elements.{recordTo}
 use Rattle.opcodes.specs.declared.Command.{Command}
@@ -12,8 +12,9 @@ use Rattle.opcodes.specs.declared.Command.the-variants.{ModeSelect, ModeSense, 
 use Rattle.transfer.specs.declared.Moved.{Moved}
 use Rattle.transfer.specs.Reading.{Reading, reads, readFrom}
 use Rattle.transfer.specs.Writing.{Writing, writes, writeFrom, markFrom}
-use Rattle.transfer.proofs.ReadLaws.{read-left}
-use Rattle.transfer.proofs.WriteLaws.{lay-left}
+use Rattle.transfer.proofs.ReadLaws.{read-run, read-left, few-moved}
+use Rattle.transfer.proofs.WriteLaws.{lay-run, lay-left}
+use Rattle.transfer.proofs.StopLaws.{few-laid}
 use Rattle.packet_state.specs.declared.state.Ending.{Ending}
 use Rattle.packet_state.specs.declared.state.Ending.the-variants.{Good}
 use Rattle.packet_state.specs.declared.state.Outcome.{Outcome}
@@ -38,6 +39,11 @@ module _ (s : List ℕ) (h : Header) (st : State) (asked : ℕ) (buf new : List 
   pub read-less : m .left ≤ asked
   read-less = rw (ap (λ (r : Reading). r .moved .left) run) (read-left s (h .size) (h .kinds) (h .blocks) (h .recorded) asked 0 (st .position) buf)
 
+  pub read-few : asked - m .left ≤ h .recorded
+  read-few =
+      rw (ap (λ (r : Reading). r .moved .left) run)
+      (few-moved s (h .size) (h .kinds) (h .blocks) (h .recorded) (read-run s (h .size) (h .kinds) (h .blocks) (h .recorded) asked 0 (st .position) buf))
+
   pub read-went : (x : Ending) (r : Outcome) → x ≡ endingOf h (m .stop) (m .left) → r ≡ moves st asked (h .size) m x
       → done r s new ≡ readWork s h st asked buf
   unfolding readWork readEnds
@@ -48,6 +54,9 @@ module _ (s : List ℕ) (h : Header) (st : State) (asked : ℕ) (buf new : List 
   pub write-less : m .left ≤ asked
   write-less = rw (ap (λ (r : Writing). r .moved .left) run) (lay-left _ _ _ asked 0 (st .position) s)
 
+  pub write-few : st .position ≤ h .capacity → asked - m .left ≤ h .capacity
+  write-few l = rw (ap (λ (r : Writing). r .moved .left) run) (few-laid _ _ _ (lay-run _ _ _ asked 0 (st .position) s) l)
+
   pub write-went : (x : Ending) (r : Outcome) (last : List ℕ) → last ≡ recordTo new (st .position) (m .place) → x ≡ writeEnding h asked m
       → r ≡ moves st asked (h .size) m x → done r last buf ≡ writeWork s h st asked buf
   unfolding writeWork writeEnds
@@ -57,6 +66,9 @@ module _ (s : List ℕ) (h : Header) (st : State) (asked : ℕ) (buf new : List 
     (run : writes new m ≡ markFrom (h .kinds) (h .capacity) asked (st .position) s) where
   pub mark-less : m .left ≤ asked
   mark-less = rw (ap (λ (r : Writing). r .moved .left) run) (lay-left _ _ _ asked 0 (st .position) s)
+
+  pub mark-few : st .position ≤ h .capacity → asked - m .left ≤ h .capacity
+  mark-few l = rw (ap (λ (r : Writing). r .moved .left) run) (few-laid _ _ _ (lay-run _ _ _ asked 0 (st .position) s) l)
 
   pub mark-went : (x : Ending) (r : Outcome) (last : List ℕ) → last ≡ recordTo new (st .position) (m .place) → x ≡ writeEnding h asked m
       → r ≡ moves st asked 0 m x → done r last buf ≡ markWork s h st asked buf

@@ -56,7 +56,7 @@ use transfer::spacing::marks_on;
 use transfer::writing::write_blocks;
 use transfer::writing::write_filemarks;
 
-fn ending_of(h: Header, stop: Stop, left: usize) -> Ending
+fn ending_of(h: Header, stop: Stop, left: u32) -> Ending
     requires { ⌜ h .warning ≤ h .capacity ⌝ }
     ensures { λ r. ⌜ r ≡ endingOf h stop left ⌝ }
 {
@@ -69,7 +69,7 @@ fn ending_of(h: Header, stop: Stop, left: usize) -> Ending
     }
 }
 
-fn read(image: &[u8], h: Header, state: State, asked: usize, buf: &mut [u8]) -> Outcome
+fn read(image: &[u8], h: Header, state: State, asked: u32, buf: &mut [u8]) -> Outcome
     requires { ⌜ headerOf (now image) ≡ Good h ⌝ }
     requires { ⌜ state .position ≤ h .recorded ⌝ }
     requires { ⌜ asked < 2 ^ 24 ⌝ }
@@ -84,7 +84,7 @@ fn read(image: &[u8], h: Header, state: State, asked: usize, buf: &mut [u8]) -> 
     end_moved(state, asked, size, moved, ending)
 }
 
-fn write_ending(h: Header, asked: usize, moved: Moved) -> Ending
+fn write_ending(h: Header, asked: u32, moved: Moved) -> Ending
     requires { ⌜ h .warning ≤ h .capacity ⌝ }
     ensures { λ r. ⌜ r ≡ writeEnding h asked moved ⌝ }
 {
@@ -100,7 +100,7 @@ fn write_ending(h: Header, asked: usize, moved: Moved) -> Ending
     Ending::Good
 }
 
-fn write(image: &mut [u8], h: Header, state: State, asked: usize, buf: &[u8]) -> Outcome
+fn write(image: &mut [u8], h: Header, state: State, asked: u32, buf: &[u8]) -> Outcome
     requires { ⌜ headerOf (now image) ≡ Good h ⌝ }
     requires { ⌜ state .position ≤ h .recorded ⌝ }
     requires { ⌜ asked < 2 ^ 24 ⌝ }
@@ -116,7 +116,7 @@ fn write(image: &mut [u8], h: Header, state: State, asked: usize, buf: &[u8]) ->
 }
 
 // 10h takes no bytes of the buffer; it is lent so that the promise can say that it stays.
-fn write_marks(image: &mut [u8], h: Header, state: State, asked: usize, buf: &[u8]) -> Outcome
+fn write_marks(image: &mut [u8], h: Header, state: State, asked: u32, buf: &[u8]) -> Outcome
     requires { ⌜ headerOf (now image) ≡ Good h ⌝ }
     requires { ⌜ state .position ≤ h .recorded ⌝ }
     requires { ⌜ asked < 2 ^ 24 ⌝ }
@@ -129,7 +129,7 @@ fn write_marks(image: &mut [u8], h: Header, state: State, asked: usize, buf: &[u
     end_moved(state, asked, 0, moved, ending)
 }
 
-fn space_run(image: &[u8], h: Header, p: usize, code: u8, count: usize) -> Moved
+fn space_run(image: &[u8], h: Header, p: u32, code: u8, count: u32) -> Moved
     requires { ⌜ headerOf (now image) ≡ Good h ⌝ }
     requires { ⌜ p ≤ h .recorded ⌝ }
     requires { ⌜ count < 2 ^ 24 ⌝ }
@@ -152,7 +152,7 @@ fn space_run(image: &[u8], h: Header, p: usize, code: u8, count: usize) -> Moved
     marks_on(image, kinds, end, n, p)
 }
 
-fn space(image: &[u8], h: Header, state: State, code: u8, count: usize) -> Outcome
+fn space(image: &[u8], h: Header, state: State, code: u8, count: u32) -> Outcome
     requires { ⌜ headerOf (now image) ≡ Good h ⌝ }
     requires { ⌜ state .position ≤ h .recorded ⌝ }
     requires { ⌜ count < 2 ^ 24 ⌝ }
@@ -177,7 +177,7 @@ fn mode_sense(h: Header, state: State, q: Request, buf: &mut [u8]) -> Outcome
     ensures { λ r. ⌜ r ≡ replyEnds (modeBytes h state q) (q .length) state ⌝ }
     ensures { λ _. ⌜ now (buf .exit) ≡ repliedInto (modeBytes h state q) (q .length) (now (buf .entry)) ⌝ }
 {
-    let asked = q.length as usize;
+    let asked = q.length;
     let whole = q.page % 64 == DEVICE_PAGE;
     if whole {
         let bytes = device_mode(h, state.speed, 0, UNIT_BLOCKS);
@@ -200,15 +200,14 @@ fn mode_select(state: State, asked: u8, list: &[u8]) -> Outcome
     requires { ⌜ asked ≤ length (now list) ⌝ }
     ensures { λ r. ⌜ r ≡ selectWork state asked (now (list .entry)) ⌝ }
 {
-    let n = asked as usize;
-    let full = n == FULL_LIST;
+    let full = asked as usize == FULL_LIST;
     if full {
         return select_speed(state, list);
     }
-    end(state, Ending::Good, 0, n)
+    end(state, Ending::Good, 0, asked as u32)
 }
 
-fn locate(h: Header, state: State, target: usize) -> Outcome
+fn locate(h: Header, state: State, target: u32) -> Outcome
     ensures { λ r. ⌜ r ≡ locateWork h state target ⌝ }
 {
     let beyond = h.recorded < target;

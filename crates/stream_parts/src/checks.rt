@@ -71,7 +71,7 @@ fn asked_by(command: Command, h: Header, q: Request) -> Asked
         ),
         Command::LoadUnload => settings(is_set(q.length, 1) & is_set(q.length, 4), false, 0),
         Command::Locate => on_tape(is_set(q.flags, 2), 0),
-        Command::ReadPosition => on_tape(false, POSITION_LENGTH),
+        Command::ReadPosition => on_tape(false, POSITION_LENGTH as usize),
     }
 }
 

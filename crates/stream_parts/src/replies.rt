@@ -13,10 +13,10 @@ use packet_parts::replies::FULL_LIST;
 use packet_parts::replies::SHORT_LIST;
 use packet_state::state::State;
 
-pub const POSITION_LENGTH: usize = 20;
+pub const POSITION_LENGTH: u8 = 20;
 
 // 1Ah: bytes 12-13 of the device page.
-pub const UNIT_BLOCKS: usize = 64;
+pub const UNIT_BLOCKS: u16 = 64;
 
 pub fn mode_length(page: u8) -> usize
     ensures { λ r. ⌜ r ≡ (if page % 64 ≡ᵇ devicePage then fullList else shortList) ⌝ }

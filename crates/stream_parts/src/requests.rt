@@ -22,17 +22,17 @@ pub fn request_of(packet: &[u8]) -> Request
 }
 
 // A count of three bytes is negative from here on.
-const HALF: usize = 0x800000;
+const HALF: u32 = 0x800000;
 
-const WHOLE: usize = 0x1000000;
+const WHOLE: u32 = 0x1000000;
 
-pub fn is_back(count: usize) -> bool
+pub fn is_back(count: u32) -> bool
     ensures { λ r. ⌜ r ≡ isBack count ⌝ }
 {
     HALF <= count
 }
 
-pub fn magnitude_of(count: usize) -> usize
+pub fn magnitude_of(count: u32) -> u32
     requires { ⌜ count < 2 ^ 24 ⌝ }
     ensures { λ r. ⌜ r ≡ magnitude count ⌝ }
 {

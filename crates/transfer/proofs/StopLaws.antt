@@ -1,6 +1,6 @@
 -- Why a run stops and where it then stands, for any end: what was moved is what is counted.
 -- Assumes nothing.
-use Prim.Native.Nat.{ℕ, suc, _+_, _≤_, _<_}
+use Prim.Native.Nat.{ℕ, suc, _+_, _-_, _≤_, _<_}
 use native.Mathlib.Omega.{arith}
 use mathlib.Core.Bool.{false, false≢true}
 use mathlib.Core.List.{List}
@@ -73,6 +73,10 @@ module _ (end : ℕ) where
   stands-within (all-laid z w b) = omega arith
   stands-within (at-end k l e w b) = omega arith
 
+  laid-few : {p n : ℕ} {m : Moved} → LayStops p n m → n - m .left ≤ end
+  laid-few (all-laid z w b) = omega arith
+  laid-few (at-end k l e w b) = omega arith
+
   module _ (lay : ℕ → ℕ → List ℕ → List ℕ) (size : ℕ) where
     pub lay-stops : {n off p : ℕ} {s : List ℕ} {X : Writing} → LayRun lay size end n off p s X → p ≤ end → LayStops p n (X .moved)
     lay-stops (LayRun.full off p s) l = all-laid refl (omega arith) (omega arith)
@@ -82,3 +86,7 @@ module _ (end : ℕ) where
     -- and it never stands beyond the end
     pub lay-within : {n off p : ℕ} {s : List ℕ} {X : Writing} → LayRun lay size end n off p s X → p ≤ end → X .moved .place ≤ end
     lay-within r l = stands-within (lay-stops r l)
+
+    -- so it lays no more elements than the end's place
+    pub few-laid : {n off p : ℕ} {s : List ℕ} {X : Writing} → LayRun lay size end n off p s X → p ≤ end → n - X .moved .left ≤ end
+    few-laid r l = laid-few (lay-stops r l)

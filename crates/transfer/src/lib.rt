@@ -16,12 +16,12 @@ pub enum Stop {
 }
 
 pub struct Moved {
-    pub place: usize, // where the tape stands
-    pub left: usize, // how many of those asked for are not done
+    pub place: u32, // where the tape stands
+    pub left: u32, // how many of those asked for are not done
     pub stop: Stop,
 }
 
-fn halt(place: usize, left: usize, stop: Stop) -> Moved
+fn halt(place: u32, left: u32, stop: Stop) -> Moved
     ensures { λ r. ⌜ r ≡ halts place left stop ⌝ }
 {
     Moved { place, left, stop }

@@ -25,13 +25,13 @@ fn stop_at(kind: Kind) -> Stop
 // Lends the buffer from the current offset on to the copier of one block; what stands beyond the transfer stays.
 pub fn read_blocks(
     image: &[u8],
-    size: usize,
-    kinds: usize,
-    blocks: usize,
-    end: usize,
+    size: u16,
+    kinds: u32,
+    blocks: u32,
+    end: u32,
     buf: &mut [u8],
-    n: usize,
-    p: usize,
+    n: u32,
+    p: u32,
 ) -> Moved
     requires { ⌜ size ≤ 1024 ⌝ }
     requires { ⌜ end ≤ 65535 ⌝ }
@@ -50,10 +50,10 @@ pub fn read_blocks(
         }
         let kind = kind_at(image, kinds, at);
         if holds_data(kind) {
-            let from = blocks + span(at, size);
-            let to = from + size;
+            let from = blocks as usize + span(at, size) as usize;
+            let to = from + size as usize;
             copy_block(&mut buf[off..], &image[from..to]);
-            off = off + size;
+            off = off + size as usize;
             at = at + 1;
             left = left - 1;
         } else {

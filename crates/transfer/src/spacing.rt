@@ -10,7 +10,7 @@ use image::elements::Kind;
 use image::elements::is_filemark;
 use image::elements::kind_at;
 
-fn marks_left(kind: Kind, left: usize) -> usize
+fn marks_left(kind: Kind, left: u32) -> u32
     requires { ⌜ 1 ≤ left ⌝ }
     ensures { λ r. ⌜ r ≡ marksLeft kind left ⌝ }
 {
@@ -21,7 +21,7 @@ fn marks_left(kind: Kind, left: usize) -> usize
     left
 }
 
-pub fn blocks_on(image: &[u8], kinds: usize, end: usize, n: usize, p: usize) -> Moved
+pub fn blocks_on(image: &[u8], kinds: u32, end: u32, n: u32, p: u32) -> Moved
     requires { ⌜ (kinds + end ≤ length (now image)) × (p ≤ end) ⌝ }
     ensures { λ r. ⌜ r ≡ blocksOn (now (image .entry)) kinds end n p ⌝ }
 {
@@ -41,7 +41,7 @@ pub fn blocks_on(image: &[u8], kinds: usize, end: usize, n: usize, p: usize) -> 
     halt(at, 0, Stop::Full)
 }
 
-pub fn blocks_back(image: &[u8], kinds: usize, n: usize, p: usize) -> Moved
+pub fn blocks_back(image: &[u8], kinds: u32, n: u32, p: u32) -> Moved
     requires { ⌜ kinds + p ≤ length (now image) ⌝ }
     ensures { λ r. ⌜ r ≡ blocksBack (now (image .entry)) kinds p n ⌝ }
 {
@@ -62,7 +62,7 @@ pub fn blocks_back(image: &[u8], kinds: usize, n: usize, p: usize) -> Moved
     halt(at, 0, Stop::Full)
 }
 
-pub fn marks_on(image: &[u8], kinds: usize, end: usize, n: usize, p: usize) -> Moved
+pub fn marks_on(image: &[u8], kinds: u32, end: u32, n: u32, p: u32) -> Moved
     requires { ⌜ (kinds + end ≤ length (now image)) × (p ≤ end) ⌝ }
     ensures { λ r. ⌜ r ≡ marksOn (now (image .entry)) kinds (end - p) n p ⌝ }
 {
@@ -78,7 +78,7 @@ pub fn marks_on(image: &[u8], kinds: usize, end: usize, n: usize, p: usize) -> M
     halt(at, 0, Stop::Full)
 }
 
-pub fn marks_back(image: &[u8], kinds: usize, n: usize, p: usize) -> Moved
+pub fn marks_back(image: &[u8], kinds: u32, n: u32, p: u32) -> Moved
     requires { ⌜ kinds + p ≤ length (now image) ⌝ }
     ensures { λ r. ⌜ r ≡ marksBack (now (image .entry)) kinds p n ⌝ }
 {

@@ -11,13 +11,13 @@ use image::elements::lay_mark;
 
 pub fn write_blocks(
     image: &mut [u8],
-    size: usize,
-    kinds: usize,
-    blocks: usize,
-    end: usize,
+    size: u16,
+    kinds: u32,
+    blocks: u32,
+    end: u32,
     src: &[u8],
-    n: usize,
-    p: usize,
+    n: u32,
+    p: u32,
 ) -> Moved
     requires { ⌜ size ≤ 1024 ⌝ }
     requires { ⌜ end ≤ 65535 ⌝ }
@@ -35,14 +35,14 @@ pub fn write_blocks(
             return halt(at, left, Stop::AtEnd);
         }
         lay_block(image, size, kinds, blocks, at, src, off);
-        off = off + size;
+        off = off + size as usize;
         at = at + 1;
         left = left - 1;
     }
     halt(at, 0, Stop::Full)
 }
 
-pub fn write_filemarks(image: &mut [u8], kinds: usize, end: usize, n: usize, p: usize) -> Moved
+pub fn write_filemarks(image: &mut [u8], kinds: u32, end: u32, n: u32, p: u32) -> Moved
     requires { ⌜ end ≤ 65535 ⌝ }
     requires { ⌜ kinds + end ≤ length (now image) ⌝ }
     requires { ⌜ p ≤ end ⌝ }

@@ -8,8 +8,8 @@ use borrow.Author.Needs.{needs}
 use Rattle.floppy.proofs.decide.Statement.{statement}
 use Rattle.floppy.proofs.decide.Tie as tie
 
-product-of-requires : tie.Need-product-of-requires
-product-of-requires c κs = search needs
+end-of-requires : tie.Need-end-of-requires
+end-of-requires c κs = let g = sound _ _ (c .before .before .pre .header) in omega (arith, c .before .before .pre .within)
 
 verdict-requires : tie.Need-verdict-requires
 verdict-requires c κs = let g = sound _ _ (c .before .before .before .pre .header) in omega arith
@@ -40,14 +40,14 @@ tape-after-requires c κs =
     let start = c .before .before .before .before .before .before .before in
     let g = sound _ _ (start .pre .header) in
     let w = works-clear _ _ _ _ _ (c .before .before .before .verdict .ensures) (c .before .enum-told .given .1) .1 in
-    (omega arith, room-of _ _ _ _ _ _ (c .before .before .before .before .product-of .ensures) w)
+    (omega arith, room-of _ _ _ _ _ _ (c .before .before .before .before .end-of .ensures) w)
 
 work-requires : tie.Need-work-requires
 work-requires c κs =
     let told = c .before .before .before .before in
     let judged = told .before .before in
     let w = works-clear _ _ _ _ _ (judged .verdict .ensures) (told .enum-told .given .1) .1 in
-    (judged .before .before .before .before .pre, room-of _ _ _ _ _ _ (judged .before .product-of .ensures) w)
+    (judged .before .before .before .before .pre, room-of _ _ _ _ _ _ (judged .before .end-of .ensures) w)
 
 joined-requires-3 : tie.Need-joined-requires-3
 joined-requires-3 c κs = search needs
@@ -70,14 +70,14 @@ returns-3 c =
     let after = ran .before .before .before in
     let told = after .before .before in
     let judged = told .before .before in
-    worked _ _ _ _ _ _ _ _ _ _ (judged .before .product-of .ensures) (judged .verdict .ensures) _ _ _ (told .enum-told .given .1) (after .tape-after .ensures)
+    worked _ _ _ _ _ _ _ _ _ _ (judged .before .end-of .ensures) (judged .verdict .ensures) _ _ _ (told .enum-told .given .1) (after .tape-after .ensures)
     (ran .work .ensures) (c .joined3 .ensures)
 
 pub decide-spec : {M : Type 1} → statement M
 decide-spec =
     tie.close
     (tie.spec
-    product-of-requires
+    end-of-requires
     verdict-requires
     enum-known-found
     refuse-requires

@@ -32,19 +32,13 @@ shared-slice-read-t4 c = search needs
 count2-requires : tie.Need-count2-requires
 count2-requires c κs = search needs
 
-cast-t17 : tie.Need-cast-t17
-cast-t17 c = search needs
-
 count2-requires-2 : tie.Need-count2-requires-2
 count2-requires-2 c κs = search needs
-
-cast-t19 : tie.Need-cast-t19
-cast-t19 c = search needs
 
 returns : tie.Need-returns
 unfolding decodeTape
 returns c =
-    simp (c .before .before .before .reported-of .ensures, c .count22 .ensures .0, c .before .count2 .ensures .0)
+    simp (c .before .before .before .reported-of .ensures, c .count22 .ensures, c .before .count2 .ensures)
 
 pub decode-tape-spec : {M : Type 1} → statement M
 decode-tape-spec =
@@ -59,7 +53,5 @@ decode-tape-spec =
     reported-of-requires
     shared-slice-read-t4
     count2-requires
-    cast-t17
     count2-requires-2
-    cast-t19
     returns)

@@ -44,9 +44,6 @@ shared-slice-read-attention-of-2 c = search needs
 count2-requires : tie.Need-count2-requires
 count2-requires c κs = search needs
 
-cast-t19 : tie.Need-cast-t19
-cast-t19 c = search needs
-
 returns : tie.Need-returns
 unfolding decodeState
 returns c = cc
@@ -69,5 +66,4 @@ decode-state-spec =
     shared-slice-read-attention-of-2
     (λ c κs. tt)
     count2-requires
-    cast-t19
     returns)

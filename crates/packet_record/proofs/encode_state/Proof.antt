@@ -43,9 +43,6 @@ array-write-bytes-2 c = search needs
 slice-aggregate-put-count2 : tie.Need-slice-aggregate-put-count2
 slice-aggregate-put-count2 c = search needs
 
-cast-put-count2 : tie.Need-cast-put-count2
-cast-put-count2 c = search needs
-
 put-count2-requires : tie.Need-put-count2-requires
 put-count2-requires c κs = simp length-set (omega arith)
 
@@ -71,7 +68,7 @@ returns : tie.Need-returns
 unfolding encodeState
 returns c =
     let speed = c .before .before .before .before in
-    let attention = speed .before .before .before in
+    let attention = speed .before .before in
     let loaded = attention .before in
     let place = loaded .before .before in
     let flags = place .before .before in
@@ -102,7 +99,6 @@ encode-state-spec =
     attention-byte-requires
     array-write-bytes-2
     slice-aggregate-put-count2
-    cast-put-count2
     put-count2-requires
     array-write-bytes-3
     array-write-bytes-4

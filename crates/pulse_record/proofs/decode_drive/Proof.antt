@@ -35,8 +35,8 @@ shared-slice-read-is-set c = search needs
 is-set-requires : tie.Need-is-set-requires
 is-set-requires c κs = search needs
 
-word-requires : tie.Need-word-requires
-word-requires c κs = search needs
+count2-requires : tie.Need-count2-requires
+count2-requires c κs = search needs
 
 shared-slice-read-t19 : tie.Need-shared-slice-read-t19
 shared-slice-read-t19 c = search needs
@@ -60,6 +60,6 @@ decode-drive-spec =
     shared-slice-read-t6-2
     shared-slice-read-is-set
     is-set-requires
-    word-requires
+    count2-requires
     shared-slice-read-t19
     returns)

@@ -5,12 +5,12 @@ use borrow.Author.Needs.{needs}
 use Rattle.pulse_record.proofs.described_place.Statement.{statement}
 use Rattle.pulse_record.proofs.described_place.Tie as tie
 
-word-requires : tie.Need-word-requires
-word-requires c κs = search needs
+count2-requires : tie.Need-count2-requires
+count2-requires c κs = search needs
 
 returns : tie.Need-returns
 unfolding describedPlace
 returns c = cc
 
 pub described-place-spec : {M : Type 1} → statement M
-described-place-spec = tie.close (tie.spec word-requires returns)
+described-place-spec = tie.close (tie.spec count2-requires returns)

@@ -5,11 +5,11 @@ use borrow.Author.Needs.{needs}
 use Rattle.pulse_record.proofs.head_in.Statement.{statement}
 use Rattle.pulse_record.proofs.head_in.Tie as tie
 
-word-requires : tie.Need-word-requires
-word-requires c κs = search needs
+count2-requires : tie.Need-count2-requires
+count2-requires c κs = search needs
 
-word-requires-2 : tie.Need-word-requires-2
-word-requires-2 c κs = search needs
+count2-requires-2 : tie.Need-count2-requires-2
+count2-requires-2 c κs = search needs
 
 shared-slice-read-t5 : tie.Need-shared-slice-read-t5
 shared-slice-read-t5 c = search needs
@@ -25,8 +25,8 @@ pub head-in-spec : {M : Type 1} → statement M
 head-in-spec =
     tie.close
     (tie.spec
-    word-requires
-    word-requires-2
+    count2-requires
+    count2-requires-2
     shared-slice-read-t5
     shared-slice-read-motion-of
     (λ c κs. tt)

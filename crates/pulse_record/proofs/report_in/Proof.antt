@@ -11,8 +11,8 @@ shared-slice-read-t3 c = search needs
 shared-slice-read-unsent : tie.Need-shared-slice-read-unsent
 shared-slice-read-unsent c = search needs
 
-word-requires : tie.Need-word-requires
-word-requires c κs = search needs
+count2-requires : tie.Need-count2-requires
+count2-requires c κs = search needs
 
 shared-slice-read-is-set : tie.Need-shared-slice-read-is-set
 shared-slice-read-is-set c = search needs
@@ -30,7 +30,7 @@ report-in-spec =
     (tie.spec
     shared-slice-read-t3
     shared-slice-read-unsent
-    word-requires
+    count2-requires
     (λ c κs. tt)
     shared-slice-read-is-set
     is-set-requires

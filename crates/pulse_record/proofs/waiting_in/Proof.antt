@@ -11,8 +11,8 @@ shared-slice-read-waiting-of c = search needs
 shared-slice-read-waiting-of-2 : tie.Need-shared-slice-read-waiting-of-2
 shared-slice-read-waiting-of-2 c = search needs
 
-word-requires : tie.Need-word-requires
-word-requires c κs = search needs
+count2-requires : tie.Need-count2-requires
+count2-requires c κs = search needs
 
 returns : tie.Need-returns
 unfolding waitingIn
@@ -24,6 +24,6 @@ waiting-in-spec =
     (tie.spec
     shared-slice-read-waiting-of
     shared-slice-read-waiting-of-2
-    word-requires
+    count2-requires
     (λ c κs. tt)
     returns)

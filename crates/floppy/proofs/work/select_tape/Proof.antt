@@ -20,6 +20,9 @@ place-under-requires c κs = search needs
 stand-at-requires : tie.Need-stand-at-requires
 stand-at-requires c κs = search needs
 
+cast-end : tie.Need-cast-end
+cast-end c = search needs
+
 end-requires : tie.Need-end-requires
 end-requires c κs = search needs
 
@@ -57,6 +60,7 @@ select-tape-spec =
     product-of-requires
     place-under-requires
     stand-at-requires
+    cast-end
     end-requires
     returns
     wrong-list-requires

@@ -1,6 +1,7 @@
 -- `work::work` meets its contract.
 -- Assumes nothing.
 use native.Mathlib.Omega.{arith}
+use Rattle.image.proofs.HeaderLaws.{sound}
 use Rattle.opcodes.specs.declared.Command.the-variants.{RequestSense, Read, Write, Inquiry, ModeSelect, ModeSense}
 use Rattle.floppy_parts.specs.Checks.{askedBy}
 use Rattle.floppy_parts.proofs.AskedLaws.{needed-as}
@@ -9,8 +10,8 @@ use borrow.Author.Needs.{needs}
 use Rattle.floppy.proofs.work.work.Statement.{statement}
 use Rattle.floppy.proofs.work.work.Tie as tie
 
-product-of-requires : tie.Need-product-of-requires
-product-of-requires c κs = search needs
+end-of-requires : tie.Need-end-of-requires
+end-of-requires c κs = let p = c .before .before .pre .0 in let g = sound _ _ (p .header) in omega (arith, p .within)
 
 enum-told : tie.Need-enum-told
 enum-told c = search needs
@@ -28,7 +29,7 @@ read-requires : tie.Need-read-requires
 unfolding askedBy
 read-requires c κs =
     let start = c .before .before .before .before .before .before .before in
-    let e = c .before .before .before .before .product-of .ensures in
+    let e = c .before .before .before .before .end-of .ensures in
     let p = start .pre .0 in
     (p .header, (omega (arith, p .within), (omega (arith, p .place), needed-as _ Read _ _ _ _ (c .before .before .enum-told2 .given .1) (start .pre .1))))
 
@@ -39,7 +40,7 @@ write-requires : tie.Need-write-requires
 unfolding askedBy
 write-requires c κs =
     let start = c .before .before .before .before .before .before .before in
-    let e = c .before .before .before .before .product-of .ensures in
+    let e = c .before .before .before .before .end-of .ensures in
     let p = start .pre .0 in
     (p .header, (omega (arith, p .within), (omega (arith, p .place), needed-as _ Write _ _ _ _ (c .before .before .enum-told3 .given .1) (start .pre .1))))
 
@@ -146,7 +147,7 @@ pub work-spec : {M : Type 1} → statement M
 work-spec =
     tie.close
     (tie.spec
-    product-of-requires
+    end-of-requires
     enum-told
     request-sense-requires
     enum-told-2

@@ -31,6 +31,9 @@ enum-told-3 c = search needs
 is-set-requires : tie.Need-is-set-requires
 is-set-requires c κs = search needs
 
+cast-transfer-bytes : tie.Need-cast-transfer-bytes
+cast-transfer-bytes c = search needs
+
 transfer-bytes-requires : tie.Need-transfer-bytes-requires
 transfer-bytes-requires c κs = search needs
 
@@ -42,6 +45,9 @@ enum-told-4 c = search needs
 
 is-set-requires-2 : tie.Need-is-set-requires-2
 is-set-requires-2 c κs = search needs
+
+cast-transfer-bytes-2 : tie.Need-cast-transfer-bytes-2
+cast-transfer-bytes-2 c = search needs
 
 transfer-bytes-requires-2 : tie.Need-transfer-bytes-requires-2
 transfer-bytes-requires-2 c κs = search needs
@@ -114,13 +120,13 @@ returns-2 c = simp (c .always .ensures, c .before .least .ensures, c .before .be
 returns-3 : tie.Need-returns-3
 unfolding askedBy
 returns-3 c =
-    let fixed = c .before .before in
+    let fixed = c .before .before .before in
     simp (c .on-tape2 .ensures, c .before .transfer-bytes .ensures, ← fixed .is-set .ensures, fixed .before .enum-told3 .given .1)
 
 returns-4 : tie.Need-returns-4
 unfolding askedBy
 returns-4 c =
-    let fixed = c .before .before in
+    let fixed = c .before .before .before in
     simp (c .storing .ensures, c .before .transfer-bytes2 .ensures, ← fixed .is-set2 .ensures, fixed .before .enum-told4 .given .1)
 
 returns-5 : tie.Need-returns-5
@@ -165,10 +171,12 @@ asked-by-spec =
     always-requires
     enum-told-3
     is-set-requires
+    cast-transfer-bytes
     transfer-bytes-requires
     on-tape-requires-2
     enum-told-4
     is-set-requires-2
+    cast-transfer-bytes-2
     transfer-bytes-requires-2
     storing-requires
     enum-told-5

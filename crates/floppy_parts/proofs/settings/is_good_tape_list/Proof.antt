@@ -20,6 +20,9 @@ add-result c = search needs
 shared-slice-read-result-2 : tie.Need-shared-slice-read-result-2
 shared-slice-read-result-2 c = search needs
 
+cast-result : tie.Need-cast-result
+cast-result c = search needs
+
 returns : tie.Need-returns
 unfolding goodTapeList
 returns c = simp (c .before .before .before .product-of .ensures, c .before .before .before .before .listed-tape .ensures)
@@ -33,4 +36,5 @@ is-good-tape-list-spec =
     shared-slice-read-result
     add-result
     shared-slice-read-result-2
+    cast-result
     returns)

@@ -8,6 +8,9 @@ use Rattle.image.proofs.elements.lay_block.Tie as tie
 span-requires : tie.Need-span-requires
 span-requires c κs = search needs
 
+cast-from : tie.Need-cast-from
+cast-from c = search needs
+
 add-from : tie.Need-add-from
 add-from c = search needs
 
@@ -52,6 +55,7 @@ lay-block-spec =
     tie.close
     (tie.spec
     span-requires
+    cast-from
     add-from
     add-to
     sub-copy-block

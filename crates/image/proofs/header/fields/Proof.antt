@@ -1,6 +1,5 @@
 -- `header::fields` meets its contract.
 -- Assumes nothing.
-use native.Mathlib.Omega.{arith}
 use Rattle.image.specs.Header.{fieldsOf}
 use borrow.Author.Needs.{needs}
 use Rattle.image.proofs.header.fields.Statement.{statement}
@@ -32,7 +31,7 @@ shared-slice-read-t11 c = search needs
 
 returns : tie.Need-returns
 unfolding fieldsOf
-returns c = ((cc), omega arith)
+returns c = cc
 
 pub fields-spec : {M : Type 1} → statement M
 fields-spec =

@@ -13,6 +13,9 @@ returns c = sym (fail _ (λ g. omega arith))
 count2-requires : tie.Need-count2-requires
 count2-requires c κs = search needs
 
+cast-if2 : tie.Need-cast-if2
+cast-if2 c = search needs
+
 returns-2 : tie.Need-returns-2
 returns-2 c = sym (fail _ (λ g. omega arith))
 
@@ -37,6 +40,7 @@ has-fixed-bytes-spec =
     (tie.spec
     returns
     count2-requires
+    cast-if2
     returns-2
     count4-requires
     returns-3

@@ -7,8 +7,17 @@ use borrow.Author.Needs.{needs}
 use Rattle.image.proofs.header.keeps_places.Statement.{statement}
 use Rattle.image.proofs.header.keeps_places.Tie as tie
 
+cast-kinds : tie.Need-cast-kinds
+cast-kinds c = search needs
+
+cast-blocks : tie.Need-cast-blocks
+cast-blocks c = search needs
+
 returns : tie.Need-returns
 returns c = sym (fail _ (λ g. omega arith))
+
+cast-if2 : tie.Need-cast-if2
+cast-if2 c = search needs
 
 add-if2 : tie.Need-add-if2
 add-if2 c = search needs
@@ -18,6 +27,9 @@ returns-2 c = sym (fail _ (λ g. omega arith))
 
 span-requires : tie.Need-span-requires
 span-requires c κs = search needs
+
+cast-if3 : tie.Need-cast-if3
+cast-if3 c = search needs
 
 add-if3 : tie.Need-add-if3
 add-if3 c = search needs
@@ -30,4 +42,16 @@ returns-4 c = sym (pass _ (omega arith))
 
 pub keeps-places-spec : {M : Type 1} → statement M
 keeps-places-spec =
-    tie.close (tie.spec returns add-if2 returns-2 span-requires add-if3 returns-3 returns-4)
+    tie.close
+    (tie.spec
+    cast-kinds
+    cast-blocks
+    returns
+    cast-if2
+    add-if2
+    returns-2
+    span-requires
+    cast-if3
+    add-if3
+    returns-3
+    returns-4)

@@ -20,6 +20,9 @@ returns-3 c = sym (fail _ (λ g. omega arith))
 returns-4 : tie.Need-returns-4
 returns-4 c = sym (fail _ (λ g. omega arith))
 
+cast-if5 : tie.Need-cast-if5
+cast-if5 c = search needs
+
 returns-5 : tie.Need-returns-5
 returns-5 c = sym (fail _ (λ g. omega arith))
 
@@ -34,4 +37,12 @@ returns-6 c =
 pub keeps-ranges-spec : {M : Type 1} → statement M
 keeps-ranges-spec =
     tie.close
-    (tie.spec returns returns-2 returns-3 returns-4 returns-5 is-block-size-requires returns-6)
+    (tie.spec
+    returns
+    returns-2
+    returns-3
+    returns-4
+    cast-if5
+    returns-5
+    is-block-size-requires
+    returns-6)

@@ -17,6 +17,9 @@ abbrev μ-loop : tie.MeasureT-loop
 place-of-requires : tie.Need-place-of-requires Inv-loop μ-loop
 place-of-requires c κs = search needs
 
+cast-at : tie.Need-cast-at Inv-loop μ-loop
+cast-at c = search needs
+
 least-requires : tie.Need-least-requires Inv-loop μ-loop
 least-requires c κs = search needs
 
@@ -57,6 +60,7 @@ store-spec =
     Inv-loop
     μ-loop
     place-of-requires
+    cast-at
     least-requires
     loop-holds
     add-put

@@ -1,17 +1,25 @@
--- `counts::put_count2` meets its contract: the width below, and a byte more.
+-- `counts::put_count2` meets its contract: two bytes, the high one first.
 -- Assumes nothing.
+use native.Mathlib.Omega.{arith}
+use lib.ListN.{length-set}
 use borrow.Author.Needs.{needs}
 use Rattle.numbers.proofs.counts.put_count2.Statement.{statement}
 use Rattle.numbers.proofs.counts.put_count2.Tie as tie
 
-put-count1-requires : tie.Need-put-count1-requires
-put-count1-requires c κs = search needs
+high-byte-requires : tie.Need-high-byte-requires
+high-byte-requires c κs = search needs
 
-add-put-count1 : tie.Need-add-put-count1
-add-put-count1 c = search needs
+slice-write-s : tie.Need-slice-write-s
+slice-write-s c = search needs
 
-put-count1-requires-2 : tie.Need-put-count1-requires-2
-put-count1-requires-2 c κs = search needs
+low-byte-requires : tie.Need-low-byte-requires
+low-byte-requires c κs = search needs
+
+add-s : tie.Need-add-s
+add-s c = search needs
+
+slice-write-s-2 : tie.Need-slice-write-s-2
+slice-write-s-2 c = simp length-set (omega arith)
 
 same-length : tie.Need-same-length
 same-length c = search needs
@@ -22,4 +30,11 @@ returns c = cc
 pub put-count2-spec : {M : Type 1} → statement M
 put-count2-spec =
     tie.close
-    (tie.spec put-count1-requires add-put-count1 put-count1-requires-2 same-length returns)
+    (tie.spec
+    high-byte-requires
+    slice-write-s
+    low-byte-requires
+    add-s
+    slice-write-s-2
+    same-length
+    returns)

@@ -4,14 +4,20 @@ use borrow.Author.Needs.{needs}
 use Rattle.numbers.proofs.counts.put_count3.Statement.{statement}
 use Rattle.numbers.proofs.counts.put_count3.Tie as tie
 
+cast-put-count2 : tie.Need-cast-put-count2
+cast-put-count2 c = search needs
+
 put-count2-requires : tie.Need-put-count2-requires
 put-count2-requires c κs = search needs
 
-add-put-count1 : tie.Need-add-put-count1
-add-put-count1 c = search needs
+cast-s : tie.Need-cast-s
+cast-s c = search needs
 
-put-count1-requires : tie.Need-put-count1-requires
-put-count1-requires c κs = search needs
+add-s : tie.Need-add-s
+add-s c = search needs
+
+slice-write-s : tie.Need-slice-write-s
+slice-write-s c = search needs
 
 same-length : tie.Need-same-length
 same-length c = search needs
@@ -21,4 +27,5 @@ returns c = cc
 
 pub put-count3-spec : {M : Type 1} → statement M
 put-count3-spec =
-    tie.close (tie.spec put-count2-requires add-put-count1 put-count1-requires same-length returns)
+    tie.close
+    (tie.spec cast-put-count2 put-count2-requires cast-s add-s slice-write-s same-length returns)

@@ -7,11 +7,14 @@ use Rattle.numbers.proofs.counts.put_count4.Tie as tie
 put-count3-requires : tie.Need-put-count3-requires
 put-count3-requires c κs = search needs
 
-add-put-count1 : tie.Need-add-put-count1
-add-put-count1 c = search needs
+cast-s : tie.Need-cast-s
+cast-s c = search needs
 
-put-count1-requires : tie.Need-put-count1-requires
-put-count1-requires c κs = search needs
+add-s : tie.Need-add-s
+add-s c = search needs
+
+slice-write-s : tie.Need-slice-write-s
+slice-write-s c = search needs
 
 same-length : tie.Need-same-length
 same-length c = search needs
@@ -21,4 +24,4 @@ returns c = cc
 
 pub put-count4-spec : {M : Type 1} → statement M
 put-count4-spec =
-    tie.close (tie.spec put-count3-requires add-put-count1 put-count1-requires same-length returns)
+    tie.close (tie.spec put-count3-requires cast-s add-s slice-write-s same-length returns)

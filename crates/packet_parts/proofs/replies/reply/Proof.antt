@@ -23,6 +23,9 @@ copy-block-requires c κs =
     let b5 = b2 .before .before .before in
     rw (length-take-le (b2 .least .result) (b5 .args .bytes .now) (omega arith)) (omega arith)
 
+cast-end : tie.Need-cast-end
+cast-end c = search needs
+
 end-requires : tie.Need-end-requires
 end-requires c κs = search needs
 
@@ -43,6 +46,7 @@ reply-spec =
     least-requires
     slice-aggregate-copy-block
     copy-block-requires
+    cast-end
     end-requires
     same-length
     returns)

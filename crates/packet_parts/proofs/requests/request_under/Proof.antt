@@ -22,7 +22,7 @@ shared-slice-read-t10 c = search needs
 
 returns : tie.Need-returns
 unfolding requestUnder
-returns c = (simp (c .before .count4 .ensures .0, c .before .before .count3 .ensures .0), c .before .before .count3 .ensures .1)
+returns c = (simp (c .before .count4 .ensures, c .before .before .count3 .ensures .0), c .before .before .count3 .ensures .1)
 
 pub request-under-spec : {M : Type 1} → statement M
 request-under-spec =

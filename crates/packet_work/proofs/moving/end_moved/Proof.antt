@@ -10,15 +10,15 @@ sub-blocks c = search needs
 stand-at-requires : tie.Need-stand-at-requires
 stand-at-requires c κs = search needs
 
-transfer-bytes-requires : tie.Need-transfer-bytes-requires
-transfer-bytes-requires c κs = search needs
+span-requires : tie.Need-span-requires
+span-requires c κs = search needs
 
 end-requires : tie.Need-end-requires
 end-requires c κs = search needs
 
 returns : tie.Need-returns
-returns c = simp (c .end .ensures, c .before .transfer-bytes .ensures, c .before .before .stand-at .ensures)
+returns c = simp (c .end .ensures, c .before .span .ensures .0, c .before .before .stand-at .ensures)
 
 pub end-moved-spec : {M : Type 1} → statement M
 end-moved-spec =
-    tie.close (tie.spec sub-blocks stand-at-requires transfer-bytes-requires end-requires returns)
+    tie.close (tie.spec sub-blocks stand-at-requires span-requires end-requires returns)

@@ -8,9 +8,6 @@ use Rattle.packet_work.proofs.settings.is_good_list.Tie as tie
 count2-requires : tie.Need-count2-requires
 count2-requires c κs = search needs
 
-cast-is-speed : tie.Need-cast-is-speed
-cast-is-speed c = search needs
-
 is-speed-requires : tie.Need-is-speed-requires
 is-speed-requires c κs = search needs
 
@@ -25,14 +22,13 @@ shared-slice-read-result-2 c = search needs
 
 returns : tie.Need-returns
 unfolding goodList
-returns c = simp (c .before .before .is-speed .ensures, c .before .before .before .count2 .ensures .0)
+returns c = simp (c .before .before .is-speed .ensures, c .before .before .before .count2 .ensures)
 
 pub is-good-list-spec : {M : Type 1} → statement M
 is-good-list-spec =
     tie.close
     (tie.spec
     count2-requires
-    cast-is-speed
     is-speed-requires
     shared-slice-read-result
     add-result

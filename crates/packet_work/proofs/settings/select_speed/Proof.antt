@@ -11,11 +11,11 @@ is-good-list-requires c κs = search needs
 count2-requires : tie.Need-count2-requires
 count2-requires c κs = search needs
 
-cast-speed : tie.Need-cast-speed
-cast-speed c = search needs
-
 with-speed-requires : tie.Need-with-speed-requires
 with-speed-requires c κs = search needs
+
+cast-end : tie.Need-cast-end
+cast-end c = search needs
 
 end-requires : tie.Need-end-requires
 end-requires c κs = search needs
@@ -25,7 +25,7 @@ unfolding speedWork
 returns c =
     let speed = c .before .before in
     let good = speed .before .before in
-    simp (c .end .ensures, c .before .with-speed .ensures, speed .before .if1 .taken, ← good .is-good-list .ensures, speed .count2 .ensures .0)
+    simp (c .end .ensures, c .before .with-speed .ensures, speed .before .if1 .taken, ← good .is-good-list .ensures, speed .count2 .ensures)
 
 wrong-list-requires : tie.Need-wrong-list-requires
 wrong-list-requires c κs = search needs
@@ -43,8 +43,8 @@ select-speed-spec =
     (tie.spec
     is-good-list-requires
     count2-requires
-    cast-speed
     with-speed-requires
+    cast-end
     end-requires
     returns
     wrong-list-requires

@@ -8,9 +8,6 @@ use borrow.Author.Needs.{needs}
 use Rattle.stream.proofs.work.mode_sense.Statement.{statement}
 use Rattle.stream.proofs.work.mode_sense.Tie as tie
 
-cast-asked : tie.Need-cast-asked
-cast-asked c = search needs
-
 device-mode-requires : tie.Need-device-mode-requires
 device-mode-requires c κs = search needs
 
@@ -18,7 +15,7 @@ slice-aggregate-reply : tie.Need-slice-aggregate-reply
 slice-aggregate-reply c = search needs
 
 reply-requires : tie.Need-reply-requires
-reply-requires c κs = let p = rw (c .before .before .before .if1 .taken) at (c .before .before .before .before .before .before .before .pre) in omega arith
+reply-requires c κs = let p = rw (c .before .before .before .if1 .taken) at (c .before .before .before .before .before .before .pre) in omega arith
 
 same-length : tie.Need-same-length
 same-length c = search needs
@@ -28,8 +25,8 @@ returns c =
     let b2 = c .before .before in
     let b5 = b2 .before .before .before in
     let b6 = b5 .before in
-    let b10 = b6 .before .before .before .before in
-    let e = with-page (b10 .args .h) (b10 .args .state) (b10 .args .q) (b6 .if1 .taken) in
+    let b9 = b6 .before .before .before in
+    let e = with-page (b9 .args .h) (b9 .args .state) (b9 .args .q) (b6 .if1 .taken) in
     replied-as _ _ _ _ _ _ _ (b5 .device-mode .ensures ∙ e) (b2 .reply .ensures .0) (b2 .reply .ensures .1)
 
 mode-header-requires : tie.Need-mode-header-requires
@@ -39,7 +36,7 @@ slice-aggregate-reply-2 : tie.Need-slice-aggregate-reply-2
 slice-aggregate-reply-2 c = search needs
 
 reply-requires-2 : tie.Need-reply-requires-2
-reply-requires-2 c κs = let p = rw (c .before .before .before .if1 .left) at (c .before .before .before .before .before .before .before .pre) in omega arith
+reply-requires-2 c κs = let p = rw (c .before .before .before .if1 .left) at (c .before .before .before .before .before .before .pre) in omega arith
 
 same-length-2 : tie.Need-same-length-2
 same-length-2 c = search needs
@@ -49,15 +46,14 @@ returns-2 c =
     let b2 = c .before .before in
     let b5 = b2 .before .before .before in
     let b6 = b5 .before in
-    let b10 = b6 .before .before .before .before in
-    let e = without-page (b10 .args .h) (b10 .args .state) (b10 .args .q) (b6 .if1 .left) in
+    let b9 = b6 .before .before .before in
+    let e = without-page (b9 .args .h) (b9 .args .state) (b9 .args .q) (b6 .if1 .left) in
     replied-as _ _ _ _ _ _ _ (b5 .mode-header .ensures ∙ e) (b2 .reply2 .ensures .0) (b2 .reply2 .ensures .1)
 
 pub mode-sense-spec : {M : Type 1} → statement M
 mode-sense-spec =
     tie.close
     (tie.spec
-    cast-asked
     device-mode-requires
     slice-aggregate-reply
     reply-requires

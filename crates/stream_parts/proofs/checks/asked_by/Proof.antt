@@ -52,6 +52,7 @@ asked-by-spec =
     (λ c κs. search needs)
     (λ c κs. search needs)
     (λ c. search needs)
+    (λ c. search needs)
     (λ c κs. search needs)
     (λ c. simp (c .no-command .ensures, c .before .enum-told .given .1))
     (λ c. simp (c .on-tape .ensures, c .before .enum-told2 .given .1))

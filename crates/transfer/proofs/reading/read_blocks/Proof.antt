@@ -40,6 +40,9 @@ holds-data-requires c κs = tt
 span-requires : tie.Need-span-requires Inv-loop μ-loop
 span-requires c κs = omega arith
 
+cast-from : tie.Need-cast-from Inv-loop μ-loop
+cast-from c = omega arith
+
 add-from : tie.Need-add-from Inv-loop μ-loop
 add-from c = omega arith
 
@@ -136,6 +139,7 @@ read-blocks-spec =
     kind-at-requires
     holds-data-requires
     span-requires
+    cast-from
     add-from
     add-to
     sub-copy-block
