@@ -20,11 +20,25 @@ const FILEMARK: u8 = 2;
 
 const RECORDED_FIELD: usize = 8;
 
+// Places in the image, of 64 bits: D + i*B can pass 32.
+fn kind_place(kinds: u32, i: u32) -> usize
+    ensures { λ r. ⌜ r ≡ kinds + i ⌝ }
+{
+    kinds as usize + i as usize
+}
+
+pub fn block_place(blocks: u32, i: u32, size: u16) -> usize
+    requires { ⌜ (i ≤ 65535) × (size ≤ 1024) ⌝ }
+    ensures { λ r. ⌜ r ≡ blocks + i * size ⌝ }
+{
+    blocks as usize + span(i, size) as usize
+}
+
 pub fn kind_at(image: &[u8], kinds: u32, i: u32) -> Kind
     requires { ⌜ kinds + i < length (now image) ⌝ }
     ensures { λ r. ⌜ r ≡ kindAt (now (image .entry)) kinds i ⌝ }
 {
-    match image[kinds as usize + i as usize] {
+    match image[kind_place(kinds, i)] {
         1 => Kind::Data,
         2 => Kind::Filemark,
         _ => Kind::Unreadable,
@@ -68,10 +82,10 @@ pub fn lay_block(
     requires { ⌜ off + size ≤ length (now src) ⌝ }
     ensures { λ _. ⌜ now (image .exit) ≡ layBlock (now (image .entry)) size kinds blocks i (part (now (src .entry)) off size) ⌝ }
 {
-    let from = blocks as usize + span(i, size) as usize;
+    let from = block_place(blocks, i, size);
     let to = off + size as usize;
     copy_block(&mut image[from..], &src[off..to]);
-    image[kinds as usize + i as usize] = DATA;
+    image[kind_place(kinds, i)] = DATA;
 }
 
 // A filemark becomes element i; no block's bytes change.
@@ -79,7 +93,7 @@ pub fn lay_mark(image: &mut [u8], kinds: u32, i: u32)
     requires { ⌜ kinds + i < length (now image) ⌝ }
     ensures { λ _. ⌜ now (image .exit) ≡ layMark (now (image .entry)) kinds i ⌝ }
 {
-    image[kinds as usize + i as usize] = FILEMARK;
+    image[kind_place(kinds, i)] = FILEMARK;
 }
 
 // Where a run from place p stored something, the elements up to its new place are those recorded.

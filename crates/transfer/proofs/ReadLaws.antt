@@ -47,13 +47,13 @@ module _ (s : List ℕ) (size kinds blocks end off p : ℕ) (buf : List ℕ) (X 
 
   -- a block was copied from the image's bytes at a to the rest of the buffer, which came back as ys
   pub read-next : (left a : ℕ) (kind : Kind) (b : Bool) (ys : List ℕ) → readFrom s size kinds blocks end left off p buf ≡ X → 0 < left → p < end
-      → kind ≡ kindAt s kinds p → b ≡ holdsData kind → b ≡ true → a ≡ p * size
-      → ys ≡ over (midOf off (length buf - off) buf) 0 (midOf (blocks + a) (blocks + a + size - (blocks + a)) s)
+      → kind ≡ kindAt s kinds p → b ≡ holdsData kind → b ≡ true → a ≡ blocks + p * size
+      → ys ≡ over (midOf off (length buf - off) buf) 0 (midOf a (a + size - a) s)
       → readFrom s size kinds blocks end (left - 1) (off + size) (p + 1) (putMid off (length buf - off) buf ys) ≡ X
   unfolding readFrom blockAt
   read-next zero a kind b ys i h l e k t q r = absurd (not-suc-le-zero h)
   read-next (suc left) a kind b ys i h l e k t q r =
-      rw (copied-over off (blocks + a) size buf s ys r, q, sub-one) (rw (lt-leb end p l, ← e, ← k, t) at i)
+      rw (copied-over off a size buf s ys r, q, sub-one) (rw (lt-leb end p l, ← e, ← k, t) at i)
 
 -- ---- the whole run
 

@@ -7,10 +7,10 @@ use crate::Moved;
 use crate::Stop;
 use crate::halt;
 use image::elements::Kind;
+use image::elements::block_place;
 use image::elements::holds_data;
 use image::elements::is_filemark;
 use image::elements::kind_at;
-use image::header::span;
 use numbers::copying::copy_block;
 
 fn stop_at(kind: Kind) -> Stop
@@ -43,14 +43,14 @@ pub fn read_blocks(
 {
     let mut left = n;
     let mut at = p;
-    let mut off: usize = 0;
+    let mut off: usize = 0; // a place in the buffer: N*B can pass 32 bits
     while left > 0 {
         if at >= end {
             return halt(at, left, Stop::AtEnd);
         }
         let kind = kind_at(image, kinds, at);
         if holds_data(kind) {
-            let from = blocks as usize + span(at, size) as usize;
+            let from = block_place(blocks, at, size);
             let to = from + size as usize;
             copy_block(&mut buf[off..], &image[from..to]);
             off = off + size as usize;

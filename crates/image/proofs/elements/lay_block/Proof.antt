@@ -5,14 +5,8 @@ use borrow.Author.Needs.{needs}
 use Rattle.image.proofs.elements.lay_block.Statement.{statement}
 use Rattle.image.proofs.elements.lay_block.Tie as tie
 
-span-requires : tie.Need-span-requires
-span-requires c κs = search needs
-
-cast-from : tie.Need-cast-from
-cast-from c = search needs
-
-add-from : tie.Need-add-from
-add-from c = search needs
+block-place-requires : tie.Need-block-place-requires
+block-place-requires c κs = search needs
 
 add-to : tie.Need-add-to
 add-to c = search needs
@@ -38,8 +32,8 @@ part-copy-block-end-2 c = search needs
 copy-block-requires : tie.Need-copy-block-requires
 copy-block-requires c κs = search needs
 
-add-image : tie.Need-add-image
-add-image c = search needs
+kind-place-requires : tie.Need-kind-place-requires
+kind-place-requires c κs = search needs
 
 slice-write-image : tie.Need-slice-write-image
 slice-write-image c = search needs
@@ -54,9 +48,7 @@ pub lay-block-spec : {M : Type 1} → statement M
 lay-block-spec =
     tie.close
     (tie.spec
-    span-requires
-    cast-from
-    add-from
+    block-place-requires
     add-to
     sub-copy-block
     part-copy-block-start
@@ -65,7 +57,7 @@ lay-block-spec =
     part-copy-block-start-2
     part-copy-block-end-2
     copy-block-requires
-    add-image
+    kind-place-requires
     slice-write-image
     same-length
     returns)

@@ -1,13 +1,12 @@
 -- `elements::lay_mark` meets its contract.
 -- Assumes nothing.
-use mathlib.Core.Path.{refl}
 use Rattle.image.specs.Elements.{layMark}
 use borrow.Author.Needs.{needs}
 use Rattle.image.proofs.elements.lay_mark.Statement.{statement}
 use Rattle.image.proofs.elements.lay_mark.Tie as tie
 
-add-image : tie.Need-add-image
-add-image c = search needs
+kind-place-requires : tie.Need-kind-place-requires
+kind-place-requires c κs = search needs
 
 slice-write-image : tie.Need-slice-write-image
 slice-write-image c = search needs
@@ -17,7 +16,7 @@ same-length c = search needs
 
 returns : tie.Need-returns
 unfolding layMark
-returns c = refl
+returns c = simp (c .kind-place .ensures)
 
 pub lay-mark-spec : {M : Type 1} → statement M
-lay-mark-spec = tie.close (tie.spec add-image slice-write-image same-length returns)
+lay-mark-spec = tie.close (tie.spec kind-place-requires slice-write-image same-length returns)

@@ -37,17 +37,14 @@ kind-at-requires c κs = omega arith
 holds-data-requires : tie.Need-holds-data-requires Inv-loop μ-loop
 holds-data-requires c κs = tt
 
-span-requires : tie.Need-span-requires Inv-loop μ-loop
-span-requires c κs = omega arith
-
-cast-from : tie.Need-cast-from Inv-loop μ-loop
-cast-from c = omega arith
-
-add-from : tie.Need-add-from Inv-loop μ-loop
-add-from c = omega arith
+block-place-requires : tie.Need-block-place-requires Inv-loop μ-loop
+block-place-requires c κs = omega arith
 
 add-to : tie.Need-add-to Inv-loop μ-loop
-add-to c = omega arith
+add-to c =
+    let e = c .before .before .before .before in
+    let m = mul-le-mul-right (e .before .before .before .before .before .args .size) (e .if1 .left) in
+    omega arith
 
 sub-copy-block : tie.Need-sub-copy-block Inv-loop μ-loop
 sub-copy-block c = omega arith
@@ -77,7 +74,7 @@ copy-block-requires c κs =
     let a = e .before .before .before .before .before .args in
     let m = mul-le-mul-right (a .size) (e .if1 .left) in
     let d = one-fewer (l .left) (a .size) (e .before .loop-test .taken) in
-    copy-fits (l .off) (a .blocks + c .before .before .span .result) (a .size) (l .buf) (a .image .now) (omega arith) (omega arith)
+    copy-fits (l .off) (c .before .before .block-place .result) (a .size) (l .buf) (a .image .now) (omega arith) (omega arith)
 
 add-off : tie.Need-add-off Inv-loop μ-loop
 add-off c = omega arith
@@ -98,7 +95,7 @@ loop-again c =
     let l = e .before .before .before .loop in
     let d = one-fewer (l .left) (e .before .before .before .before .before .before .args .size) (e .before .before .loop-test .taken) in (
       read-next _ _ _ _ _ _ _ _ _ _ _ _ _ _ (l .inv .0) (search) (search) (e .kind-at .ensures) (s .before .before .holds-data .ensures)
-          (s .before .if2 .taken) (s .span .ensures .0) (c .before .before .copy-block .ensures),
+          (s .before .if2 .taken) (s .block-place .ensures) (c .before .before .copy-block .ensures),
       omega (arith, c .before .buf .given),
     )
 
@@ -138,9 +135,7 @@ read-blocks-spec =
     returns
     kind-at-requires
     holds-data-requires
-    span-requires
-    cast-from
-    add-from
+    block-place-requires
     add-to
     sub-copy-block
     part-copy-block-start
