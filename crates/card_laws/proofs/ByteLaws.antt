@@ -5,7 +5,9 @@ use mathlib.Core.Bool.{Bool, true, false}
 use Prim.Native.Nat.{ℕ, zero, suc, _+_, _*_, _/_, _%_, _^_, _<_, _≤_}
 use native.Mathlib.Omega.{arith}
 use borrow.Author.Tests.{eq-eqb, ne-eqb}
+use mathlib.Core.List.{[]}
 use Rattle.numbers.specs.Choice.{_≡ᵇ_}
+use Rattle.numbers.proofs.CountLaws.{bytes-read-back}
 use Rattle.packet_state.specs.declared.state.Attention.{Attention}
 use Rattle.packet_state.specs.declared.state.Attention.the-variants.{Nothing, MediumChanged, Reset}
 use Rattle.pulse_parts.specs.declared.head.Motion.{Motion}
@@ -14,13 +16,13 @@ use Rattle.numbers.specs.Flags.{isSet, weightOf}
 use Rattle.packet_record.specs.PacketRecord.{attentionOf, attentionByte}
 use Rattle.pulse_record.specs.PulseRecord.{motionOf, motionByte, unsent}
 
--- ---- numbers
+-- ---- numbers, by the law over the width
 
 pub two-back : (v : ℕ) → v < 2 ^ 16 → v / 256 % 256 * 256 + v % 256 ≡ v
-two-back v h = omega arith
+two-back v h = bytes-read-back 2 v [] h
 
 pub four-back : (v : ℕ) → v < 2 ^ 32 → ((v / 256 / 256 / 256 % 256 * 256 + v / 256 / 256 % 256) * 256 + v / 256 % 256) * 256 + v % 256 ≡ v
-four-back v h = omega arith
+four-back v h = bytes-read-back 4 v [] h
 
 -- ---- flags
 

@@ -2,7 +2,7 @@
 -- Assumes nothing.
 use mathlib.Core.Path.{_≡_}
 use mathlib.Core.Bool.{Bool, true, false, _||_}
-use mathlib.Core.List.{List, [], _∷_, _++_}
+use mathlib.Core.List.{List, [], _∷_, _++_, append-assoc}
 use Prim.Native.Nat.{ℕ, zero, suc, _/_, _%_, _<_, _≤_}
 use native.Mathlib.Omega.{arith}
 use borrow.Author.Tests.{eqb-true, leb-true, ltb-true}
@@ -32,8 +32,10 @@ pub data All : List ℕ → Type 0 where
   none : All []
   next : {x : ℕ} {xs : List ℕ} → x < 256 → All xs → All (x ∷ xs)
 
-pub word : (v : ℕ) {xs : List ℕ} → All xs → All (countBytes 2 v ++ xs)
-word v a = next {x = v / 256 % 256} (omega arith) (next {x = v % 256} (omega arith) a)
+-- the bytes of a number of any width, before others
+pub count-all : (k v : ℕ) {xs : List ℕ} → All xs → All (countBytes k v ++ xs)
+count-all zero v a = a
+count-all (suc k) v {xs} a = rw (append-assoc (countBytes k (v / 256)) ((v % 256) ∷ []) xs) (count-all k (v / 256) (next {x = v % 256} (omega arith) a))
 
 pub bytes-of : {s : List ℕ} → All s → Bytes s
 bytes-of none i = omega arith
@@ -110,22 +112,22 @@ encoded-bytes d k f =
     bytes-of
     (next (omega (arith, flag-most (m .inside) 1, flag-most (m .referenced) 2, flag-most (m .fresh) 4, flag-most (m .asked) 8, repeat))
     (next (motion-low (d .head .motion))
-    (word (d .cart .segments)
+    (count-all 2 (d .cart .segments)
     (next (c .tracks)
     (next (omega (arith, flag-most (d .cart .protected) 1, flag-most (d .cart .burst) 2, flag-most (d .cart .wide) 4))
     (next (c .format)
     (next (c .kind)
-    (word (d .head .place)
-    (word (d .head .target)
+    (count-all 2 (d .head .place)
+    (count-all 2 (d .head .target)
     (next (c .track)
     (next (omega arith)
     (next (omega arith)
     (next (f .command)
     (next (omega (arith, flag-most (d .level) 1))
     (next (omega arith)
-    (word _
+    (count-all 2 _
     (next (waited-low (d .waiting) free (m .referenced) (r .1))
     (next (omega arith)
-    (word _
-    (word (d .vendor)
+    (count-all 2 _
+    (count-all 2 (d .vendor)
     (next (f .rom) (next (omega arith) (next (omega arith) (next (omega arith) (next (omega arith) (next (omega arith) none))))))))))))))))))))))))))

@@ -35,7 +35,7 @@ use Rattle.packet_record.specs.PacketRecord.{encodeAnswer}
 use Rattle.floppy_record.specs.FloppyRecord.{decodeFloppy, encodeFloppy, encodeTape}
 use Rattle.tapecard.specs.FloppyCalls.{floppyRecord, floppyLeft, floppyPacketLeft, floppyFreshCall, floppyChangeCall, floppyPacketCall}
 use Rattle.card_laws.specs.Promises.{Bytes, FitsTape, FloppyStaysBytes}
-use Rattle.card_laws.proofs.BytesKept.{All, bytes-of, flag-most, next, none, word}
+use Rattle.card_laws.proofs.BytesKept.{All, bytes-of, count-all, flag-most, next, none}
 use Rattle.card_laws.proofs.CycleLaws.{decoded-tape-fits}
 use Rattle.card_laws.proofs.FloppyFollowing.{full-sound, reset-fits, tape-left}
 use Rattle.card_laws.proofs.PacketBytes.{Fits, alike, answer-bytes, answer-fits, ending-of, ends-fits, fits, fits-of, low, lowEnding, sense-low}
@@ -87,8 +87,8 @@ tape-all t f =
     (next (f .fill)
     (next (f .bseg)
     (next {x = flagsByte x} (omega (arith, flag-most (x .deleted) 0x80, flag-most (x .reduced) 0x40, flag-most (x .formatting) 0x20))
-    (word (t .segtrk)
-    (word (t .trks)
+    (count-all 2 (t .segtrk)
+    (count-all 2 (t .trks)
     (next (f .sector) (next (f .cylinder) (next (f .head) (next zero (next zero (next zero (next zero (next zero none)))))))))))))
 
 floppy-bytes : (f : Floppy) → f .shared .sense .key < 256 → low (f .shared .sense) ≡ true → FitsTape (f .tape) → Bytes (encodeFloppy f)

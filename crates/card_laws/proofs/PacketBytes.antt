@@ -3,12 +3,11 @@
 use mathlib.Core.Path.{_≡_, refl, _∙_}
 use mathlib.Core.Bool.{Bool, true, false, cond, not, _&&_}
 use mathlib.Core.List.{List, _++_}
-use Prim.Native.Nat.{ℕ, _/_, _%_, _<_}
+use Prim.Native.Nat.{ℕ, _<_}
 use native.Mathlib.Omega.{arith}
 use borrow.Author.Tests.{eqb-true, ltb-true, not-true}
 use lib.ListN.{length}
 use Rattle.numbers.specs.Choice.{_<ᵇ_, _≡ᵇ_, if_then_else_}
-use Rattle.numbers.specs.Counts.{countBytes}
 use Rattle.numbers.proofs.Cases.{ands, either}
 use Rattle.image.specs.declared.header.Header.{Header}
 use Rattle.image.specs.Header.{fieldsOf}
@@ -45,7 +44,7 @@ use Rattle.stream_laws.proofs.Leaving.{outcomeOf, accepted-leaves}
 use Rattle.packet_record.specs.PacketRecord.{attentionByte, decodeState, encodeAnswer, encodeState}
 use Rattle.tapecard.specs.PacketCalls.{packetCall, packetChange, packetFresh, packetLeft}
 use Rattle.card_laws.specs.Promises.{Bytes, PacketStaysBytes}
-use Rattle.card_laws.proofs.BytesKept.{All, bytes-of, flag-most, next, none, word}
+use Rattle.card_laws.proofs.BytesKept.{All, bytes-of, count-all, flag-most, next, none}
 
 -- ---- every number that a packet tells, and both codes of every sense that it leaves, stand in a byte each
 
@@ -158,11 +157,6 @@ packet-fits = answer-fits streamDevice (λ st next. refl) (λ s h st q buf. work
 
 -- ---- the bytes
 
-quad : (v : ℕ) {xs : List ℕ} → All xs → All (countBytes 4 v ++ xs)
-quad v a =
-    next {x = v / 256 / 256 / 256 % 256} (omega arith)
-    (next {x = v / 256 / 256 % 256} (omega arith) (next {x = v / 256 % 256} (omega arith) (next {x = v % 256} (omega arith) a)))
-
 attention-byte : (a : Attention) → attentionByte a < 256
 attention-byte Nothing = omega arith
 attention-byte MediumChanged = omega arith
@@ -175,14 +169,14 @@ state-all st key l a =
     let x = st .sense in
     let asc = ltb-true (x .asc) 256 (search ands) in
     let ascq = ltb-true (x .ascq) 256 (search ands) in
-    quad (st .position)
+    count-all 4 (st .position)
     (next (omega (arith, flag-most (st .loaded) 1))
     (next (attention-byte (st .attention))
-    (word (st .speed)
+    (count-all 2 (st .speed)
     (next key
     (next asc
     (next ascq
-    (next (omega (arith, flag-most (x .valid) 1, flag-most (x .eom) 2, flag-most (x .filemark) 4)) (quad (x .information) a))))))))
+    (next (omega (arith, flag-most (x .valid) 1, flag-most (x .eom) 2, flag-most (x .filemark) 4)) (count-all 4 (x .information) a))))))))
 
 state-bytes : (st : State) → st .sense .key < 256 → low (st .sense) ≡ true → Bytes (encodeState st)
 unfolding encodeState
@@ -203,7 +197,7 @@ answer-bytes x e =
     (next number
     (next status
     (next zero
-    (next zero (quad (x .answer .blocks) (quad (x .answer .bytes) (next zero (next zero (next zero (next zero none))))))))))
+    (next zero (count-all 4 (x .answer .blocks) (count-all 4 (x .answer .bytes) (next zero (next zero (next zero (next zero none))))))))))
 
 -- ---- the promises
 

@@ -1,12 +1,12 @@
 -- Laws of big-endian counts, each over the width.
 -- Assumes nothing.
-use mathlib.Core.Path.{_≡_, refl, _∙_}
-use mathlib.Core.List.{List}
+use mathlib.Core.Path.{_≡_, refl, ap, _∙_}
+use mathlib.Core.List.{List, [], _∷_, _++_, append-assoc}
 use Prim.Native.Nat.{ℕ, zero, suc, _+_, _/_, _%_, _^_, _<_, _≤_}
 use native.Mathlib.Omega.{arith}
-use lib.ListN.{length, getD, length-set}
-use lib.Seq.{getD-set-same, getD-set-other}
-use Rattle.numbers.specs.Counts.{countAt, putCount}
+use lib.ListN.{length, getD, length-set, length-append}
+use lib.Seq.{getD-set-same, getD-set-other, getD-append-seam}
+use Rattle.numbers.specs.Counts.{countAt, putCount, countBytes}
 
 -- k bytes spell a number below 256 ^ k
 pub count-bound : (s : List ℕ) (p k : ℕ) → ((i : ℕ) → getD s i 0 < 256) → countAt s p k < 256 ^ k
@@ -50,3 +50,19 @@ count-read-back s p (suc (suc k)) v h b =
     let q = count-by-bytes (putCount s p (suc (suc k)) v) low p (suc k) (λ i a c. getD-set-other low (p + suc k) i (v % 256) 0 (λ x. omega arith)) in
     let w = count-read-back s p (suc k) (v / 256) (omega arith) (omega arith) in
     omega (arith, e, q, w)
+
+bytes-length : (k v : ℕ) → length (countBytes k v) ≡ k
+bytes-length zero v = refl
+bytes-length (suc k) v = simp length-append (omega (arith, bytes-length k (v / 256)))
+
+-- the bytes of a number spell it, whatever follows them
+pub bytes-read-back : (k v : ℕ) (rest : List ℕ) → v < 256 ^ k → countAt (countBytes k v ++ rest) 0 k ≡ v
+bytes-read-back zero v rest b = omega arith
+bytes-read-back (suc zero) v rest b = omega arith
+bytes-read-back (suc (suc k)) v rest b =
+    let high = countBytes (suc k) (v / 256) in
+    let n : 0 + suc k ≡ length high = omega (arith, bytes-length (suc k) (v / 256)) in
+    let last = ((v % 256) ∷ []) ++ rest in
+    let e = ap (λ (i : ℕ). getD (high ++ last) i 0) n ∙ getD-append-seam high (v % 256) rest 0 in
+    let w = bytes-read-back (suc k) (v / 256) last (omega arith) in
+    rw (append-assoc high ((v % 256) ∷ []) rest) (omega (arith, e, w))
