@@ -1,6 +1,5 @@
 // What each command of the floppy tape device asks before its work.
 ghost use mathlib.Core.Path.{_≡_};
-ghost use Prim.Native.Nat.{_≤_};
 ghost use Rattle.packet_parts.specs.Verdicts.{isProtected, verdictBy};
 ghost use Rattle.floppy_parts.specs.Checks.{badLength, badPage, askedBy};
 use crate::replies::TAPE_LIST;
@@ -41,7 +40,6 @@ fn bad_page(page: u8) -> bool
 }
 
 fn asked_by(command: Command, h: Header, end: u32, q: Request) -> Asked
-    requires { ⌜ h .size ≤ 1024 ⌝ }
     ensures { λ r. ⌜ r ≡ askedBy command h end q ⌝ }
 {
     let n = q.length as usize;
@@ -61,7 +59,6 @@ fn asked_by(command: Command, h: Header, end: u32, q: Request) -> Asked
 }
 
 pub fn verdict(h: Header, state: State, end: u32, q: Request, room: usize) -> Verdict
-    requires { ⌜ h .size ≤ 1024 ⌝ }
     ensures { λ r. ⌜ r ≡ verdictBy (askedBy (q .command) h end q) (isProtected h) state room ⌝ }
 {
     let command = q.command;

@@ -1,6 +1,6 @@
 // What the commands take from the twelve bytes of one packet: nothing is kept from the packet before.
 ghost use mathlib.Core.Path.{_≡_};
-ghost use Prim.Native.Nat.{_*_, _^_, _<_, _≤_};
+ghost use Prim.Native.Nat.{_*_, _^_, _<_};
 ghost use lib.ListN.{length};
 ghost use Rattle.packet_parts.specs.Requests.{requestUnder};
 use numbers::counts::count3;
@@ -32,7 +32,6 @@ pub fn request_under(command: Command, packet: &[u8]) -> Request
 
 // N*B reaches 17,179,868,160 and passes 32 bits, so it is a product of 64.
 pub fn transfer_bytes(count: u32, size: u16) -> usize
-    requires { ⌜ (count < 2 ^ 24) × (size ≤ 1024) ⌝ }
     ensures { λ r. ⌜ r ≡ count * size ⌝ }
 {
     count as usize * size as usize

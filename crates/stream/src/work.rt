@@ -72,7 +72,6 @@ fn ending_of(h: Header, stop: Stop, left: u32) -> Ending
 fn read(image: &[u8], h: Header, state: State, asked: u32, buf: &mut [u8]) -> Outcome
     requires { ⌜ headerOf (now image) ≡ Good h ⌝ }
     requires { ⌜ state .position ≤ h .recorded ⌝ }
-    requires { ⌜ asked < 2 ^ 24 ⌝ }
     requires { ⌜ asked * h .size ≤ length (now buf) ⌝ }
     ensures { λ r. ⌜ done r (now (image .entry)) (now (buf .exit)) ≡ readWork (now (image .entry)) h state asked (now (buf .entry)) ⌝ }
 {
@@ -103,7 +102,6 @@ fn write_ending(h: Header, asked: u32, moved: Moved) -> Ending
 fn write(image: &mut [u8], h: Header, state: State, asked: u32, buf: &[u8]) -> Outcome
     requires { ⌜ headerOf (now image) ≡ Good h ⌝ }
     requires { ⌜ state .position ≤ h .recorded ⌝ }
-    requires { ⌜ asked < 2 ^ 24 ⌝ }
     requires { ⌜ asked * h .size ≤ length (now buf) ⌝ }
     ensures { λ r. ⌜ done r (now (image .exit)) (now (buf .entry)) ≡ writeWork (now (image .entry)) h state asked (now (buf .entry)) ⌝ }
 {
@@ -119,7 +117,6 @@ fn write(image: &mut [u8], h: Header, state: State, asked: u32, buf: &[u8]) -> O
 fn write_marks(image: &mut [u8], h: Header, state: State, asked: u32, buf: &[u8]) -> Outcome
     requires { ⌜ headerOf (now image) ≡ Good h ⌝ }
     requires { ⌜ state .position ≤ h .recorded ⌝ }
-    requires { ⌜ asked < 2 ^ 24 ⌝ }
     ensures { λ r. ⌜ done r (now (image .exit)) (now (buf .entry)) ≡ markWork (now (image .entry)) h state asked (now (buf .entry)) ⌝ }
 {
     let p = state.position;

@@ -1,6 +1,5 @@
 // What each command of the stream device asks before its work.
 ghost use mathlib.Core.Path.{_≡_};
-ghost use Prim.Native.Nat.{_^_, _<_, _≤_};
 ghost use Rattle.packet_parts.specs.Verdicts.{isProtected, verdictBy};
 ghost use Rattle.stream_parts.specs.Checks.{badCode, badLength, badPage, askedBy};
 use crate::replies::POSITION_LENGTH;
@@ -49,7 +48,6 @@ fn bad_page(page: u8) -> bool
 }
 
 fn asked_by(command: Command, h: Header, q: Request) -> Asked
-    requires { ⌜ (q .count < 2 ^ 24) × (h .size ≤ 1024) ⌝ }
     ensures { λ r. ⌜ r ≡ askedBy command h q ⌝ }
 {
     let room = q.length as usize;
@@ -76,7 +74,6 @@ fn asked_by(command: Command, h: Header, q: Request) -> Asked
 }
 
 pub fn verdict(h: Header, state: State, q: Request, room: usize) -> Verdict
-    requires { ⌜ (q .count < 2 ^ 24) × (h .size ≤ 1024) ⌝ }
     ensures { λ r. ⌜ r ≡ verdictBy (askedBy (q .command) h q) (isProtected h) state room ⌝ }
 {
     let command = q.command;

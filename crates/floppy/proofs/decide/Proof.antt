@@ -12,7 +12,7 @@ end-of-requires : tie.Need-end-of-requires
 end-of-requires c κs = let g = sound _ _ (c .before .before .pre .header) in omega (arith, c .before .before .pre .within)
 
 verdict-requires : tie.Need-verdict-requires
-verdict-requires c κs = let g = sound _ _ (c .before .before .before .pre .header) in omega arith
+verdict-requires c κs = search needs
 
 enum-known-found : tie.Need-enum-known-found
 enum-known-found c = search needs

@@ -1,7 +1,5 @@
 -- `decide` meets its contract.
 -- Assumes nothing.
-use native.Mathlib.Omega.{arith}
-use Rattle.image.proofs.HeaderLaws.{sound}
 use Rattle.stream.proofs.PacketLaws.{was-refused, ended-before, worked}
 use Rattle.packet_parts.proofs.VerdictLaws.{works-clear}
 use borrow.Author.Needs.{needs}
@@ -9,7 +7,7 @@ use Rattle.stream.proofs.decide.Statement.{statement}
 use Rattle.stream.proofs.decide.Tie as tie
 
 verdict-requires : tie.Need-verdict-requires
-verdict-requires c κs = let g = sound _ _ (c .before .before .pre .header) in omega (arith, c .before .before .pre .count)
+verdict-requires c κs = search needs
 
 enum-known-found : tie.Need-enum-known-found
 enum-known-found c = search needs

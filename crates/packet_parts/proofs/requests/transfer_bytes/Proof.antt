@@ -7,7 +7,7 @@ use Rattle.packet_parts.proofs.requests.transfer_bytes.Statement.{state
 use Rattle.packet_parts.proofs.requests.transfer_bytes.Tie as tie
 
 mul-result : tie.Need-mul-result
-mul-result c = let h = mul-le-mul (le-of-lt (c .pre .0)) (c .pre .1) in omega arith
+mul-result c = let h = mul-le-mul (le-of-lt (c .fits .count .fits)) (le-of-lt (c .fits .size .fits)) in omega arith
 
 returns : tie.Need-returns
 returns c = search needs

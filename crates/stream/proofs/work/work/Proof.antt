@@ -47,7 +47,7 @@ read-requires : tie.Need-read-requires
 unfolding askedBy
 read-requires c κs =
     let start = c .before .before .before .before .before .before in
-    (start .pre .0 .header, (start .pre .0 .place, (start .pre .0 .count, needed-as _ Read _ _ _ (c .before .before .enum-told5 .given .1) (start .pre .1))))
+    (start .pre .0 .header, (start .pre .0 .place, needed-as _ Read _ _ _ (c .before .before .enum-told5 .given .1) (start .pre .1)))
 
 enum-told-6 : tie.Need-enum-told-6
 enum-told-6 c = search needs
@@ -56,7 +56,7 @@ write-requires : tie.Need-write-requires
 unfolding askedBy
 write-requires c κs =
     let start = c .before .before .before .before .before .before in
-    (start .pre .0 .header, (start .pre .0 .place, (start .pre .0 .count, needed-as _ Write _ _ _ (c .before .before .enum-told6 .given .1) (start .pre .1))))
+    (start .pre .0 .header, (start .pre .0 .place, needed-as _ Write _ _ _ (c .before .before .enum-told6 .given .1) (start .pre .1)))
 
 enum-told-7 : tie.Need-enum-told-7
 enum-told-7 c = search needs
