@@ -2,7 +2,7 @@
 //! packet, and a copy block by block. It answers READ alone; every other packet is an unknown command here.
 
 use tapecard::bytes::triple::{self, Triple};
-use tapecard::bytes::{kind, opcode};
+use tapecard::bytes::{count_at, kind, long_at, opcode, put_long, word_at};
 use tapecard::packet::CHECK_CONDITION;
 
 const SPEEDS: [u16; 5] = [0, 62, 125, 250, 500];
@@ -13,10 +13,10 @@ const EOM: u8 = 2;
 const FILEMARK: u8 = 4;
 
 struct Header {
-    block_size: usize,
-    recorded: usize,
-    kinds_at: usize,
-    blocks_at: usize,
+    block_size: u32,
+    recorded: u32,
+    kinds_at: u32,
+    blocks_at: u32,
     /// U > C - W.
     past_warning: bool,
 }
@@ -38,8 +38,8 @@ pub fn packet(
         answer[0] = 2;
         return;
     };
-    let position = long(record, 0);
-    if position > header.recorded || !SPEEDS.contains(&word(record, 6)) || record[8] > 15 {
+    let position = long_at(record, 0);
+    if position > header.recorded || !SPEEDS.contains(&word_at(record, 6)) || record[8] > 15 {
         answer[0] = 3;
         return;
     }
@@ -49,20 +49,15 @@ pub fn packet(
         answer[1] = CHECK_CONDITION;
         return;
     }
-    let count = long(&[0, packet[2], packet[3], packet[4]], 0);
-    if data.len() < count * header.block_size {
+    let count = count_at(packet, 2);
+    // N*B can pass 32 bits.
+    if (data.len() as u64) < u64::from(count) * u64::from(header.block_size) {
         answer[0] = 4;
         return;
     }
     let run = copy_blocks(image, &header, position, count, data);
     finish(record, &header, &run, count);
-    answer[1] = if run.stop.is_some() {
-        CHECK_CONDITION
-    } else {
-        0
-    };
-    answer[4..8].copy_from_slice(&(run.copied as u32).to_be_bytes());
-    answer[8..12].copy_from_slice(&((run.copied * header.block_size) as u32).to_be_bytes());
+    tell(answer, &header, &run);
 }
 
 /// Attention, opcode, fields, not ready.
@@ -85,14 +80,14 @@ fn before_the_work(record: &[u8; 16], packet: &[u8]) -> Option<Triple> {
 
 /// How far a READ came.
 struct Run {
-    position: usize,
-    copied: usize,
+    position: u32,
+    copied: u32,
     stop: Option<Triple>,
 }
 
 /// Copies up to `count` blocks from this position on.
-fn copy_blocks(image: &[u8], header: &Header, from: usize, count: usize, data: &mut [u8]) -> Run {
-    let size = header.block_size;
+fn copy_blocks(image: &[u8], header: &Header, from: u32, count: u32, data: &mut [u8]) -> Run {
+    let size = header.block_size as usize;
     let mut run = Run {
         position: from,
         copied: 0,
@@ -103,10 +98,12 @@ fn copy_blocks(image: &[u8], header: &Header, from: usize, count: usize, data: &
             run.stop = Some(triple::END_OF_DATA);
             break;
         }
-        let block = header.blocks_at + run.position * size;
-        match image[header.kinds_at + run.position] {
+        let element = run.position as usize;
+        let block = header.blocks_at as usize + element * size;
+        match image[header.kinds_at as usize + element] {
             kind::DATA => {
-                let room = &mut data[run.copied * size..(run.copied + 1) * size];
+                let copied = run.copied as usize;
+                let room = &mut data[copied * size..(copied + 1) * size];
                 room.copy_from_slice(&image[block..block + size]);
                 run.copied += 1;
             }
@@ -118,15 +115,24 @@ fn copy_blocks(image: &[u8], header: &Header, from: usize, count: usize, data: &
     run
 }
 
-fn finish(record: &mut [u8; 16], header: &Header, run: &Run, count: usize) {
-    record[0..4].copy_from_slice(&(run.position as u32).to_be_bytes());
+fn finish(record: &mut [u8; 16], header: &Header, run: &Run, count: u32) {
+    put_long(record, 0, run.position);
     match run.stop {
         Some(sense) => {
-            let flags = VALID | flag_beside(sense, header);
+            let flags = VALID + flag_beside(sense, header);
             end(record, sense, flags, count - run.copied);
         }
         None => end(record, triple::NOTHING, 0, 0),
     }
+}
+
+/// Status, blocks and bytes.
+fn tell(answer: &mut [u8; 16], header: &Header, run: &Run) {
+    if run.stop.is_some() {
+        answer[1] = CHECK_CONDITION;
+    }
+    put_long(answer, 4, run.copied);
+    put_long(answer, 8, run.copied * header.block_size);
 }
 
 /// The flag that a stop has beside [`VALID`]. 02, A3: "So 8/00/05 on READ and SPACE carries EOM when U > C - W."
@@ -138,43 +144,37 @@ fn flag_beside(stop: Triple, header: &Header) -> u8 {
     }
 }
 
-fn end(record: &mut [u8; 16], sense: Triple, flags: u8, residue: usize) {
+fn end(record: &mut [u8; 16], sense: Triple, flags: u8, residue: u32) {
     record[8..11].copy_from_slice(&sense);
     record[11] = flags;
-    record[12..16].copy_from_slice(&(residue as u32).to_be_bytes());
+    put_long(record, 12, residue);
 }
 
 /// The header, where the image keeps its rules.
 fn read_header(image: &[u8]) -> Option<Header> {
-    if image.len() < 32 || word(image, 0) != 32 {
+    if image.len() < 32 || word_at(image, 0) != 32 {
         return None;
     }
-    let capacity = long(image, 4);
-    let early_warning = usize::from(word(image, 22));
-    let recorded = long(image, 8);
-    let header = Header {
-        block_size: word(image, 2).into(),
-        recorded,
-        kinds_at: long(image, 12),
-        blocks_at: long(image, 16),
-        past_warning: recorded + early_warning > capacity,
-    };
-    let ranges = (header.block_size == 512 || header.block_size == 1024)
+    let block_size = u32::from(word_at(image, 2));
+    let capacity = long_at(image, 4);
+    let recorded = long_at(image, 8);
+    let (kinds_at, blocks_at) = (long_at(image, 12), long_at(image, 16));
+    let early_warning = u32::from(word_at(image, 22));
+    let ranges = (block_size == 512 || block_size == 1024)
         && (1..=65_535).contains(&capacity)
         && recorded <= capacity
         && image[20] <= 1
         && early_warning <= capacity
         && image[24..32].iter().all(|b| *b == 0);
-    let places = header.kinds_at >= 32
-        && header.kinds_at + capacity <= header.blocks_at
-        && header.blocks_at + capacity * header.block_size <= image.len();
-    (ranges && places).then_some(header)
-}
-
-fn word(bytes: &[u8], at: usize) -> u16 {
-    u16::from_be_bytes([bytes[at], bytes[at + 1]])
-}
-
-fn long(bytes: &[u8], at: usize) -> usize {
-    u32::from_be_bytes([bytes[at], bytes[at + 1], bytes[at + 2], bytes[at + 3]]) as usize
+    // K + C and D + C*B can pass 32 bits.
+    let places = kinds_at >= 32
+        && u64::from(kinds_at) + u64::from(capacity) <= u64::from(blocks_at)
+        && u64::from(blocks_at) + u64::from(capacity) * u64::from(block_size) <= image.len() as u64;
+    (ranges && places).then(|| Header {
+        block_size,
+        recorded,
+        kinds_at,
+        blocks_at,
+        past_warning: recorded > capacity - early_warning,
+    })
 }

@@ -1,6 +1,6 @@
 //! The cartridge and the packet that are measured.
 
-use tapecard::bytes::{kind, opcode};
+use tapecard::bytes::{kind, opcode, put_long, put_word};
 
 pub const BLOCK_SIZE: usize = 1024;
 pub const BLOCKS: usize = 64;
@@ -19,12 +19,12 @@ pub fn image() -> Vec<u8> {
     let kinds_at = HEADER;
     let blocks_at = kinds_at + BLOCKS;
     let mut image = vec![0; blocks_at + ROOM];
-    image[0..2].copy_from_slice(&(HEADER as u16).to_be_bytes());
-    image[2..4].copy_from_slice(&(BLOCK_SIZE as u16).to_be_bytes());
-    image[4..8].copy_from_slice(&(BLOCKS as u32).to_be_bytes());
-    image[8..12].copy_from_slice(&(BLOCKS as u32).to_be_bytes());
-    image[12..16].copy_from_slice(&(kinds_at as u32).to_be_bytes());
-    image[16..20].copy_from_slice(&(blocks_at as u32).to_be_bytes());
+    put_word(&mut image, 0, HEADER as u16);
+    put_word(&mut image, 2, BLOCK_SIZE as u16);
+    put_long(&mut image, 4, BLOCKS as u32);
+    put_long(&mut image, 8, BLOCKS as u32);
+    put_long(&mut image, 12, kinds_at as u32);
+    put_long(&mut image, 16, blocks_at as u32);
     image[kinds_at..blocks_at].fill(kind::DATA);
     for (place, byte) in image[blocks_at..].iter_mut().enumerate() {
         *byte = (place * 7 + place / BLOCK_SIZE) as u8;

@@ -155,7 +155,7 @@ fn with_damaged_record(
 fn damage_record(record: &mut [u8; 32], random: &mut Random, place: &Place) {
     let capacity = place.capacity;
     match random.below(12) {
-        0 => put_long(record, 0, place.product as u32 + 1),
+        0 => put_long(record, 0, place.product + 1),
         1 => put_long(record, 0, random.number() as u32),
         2 => {
             let speeds = [1, 61, 63, 124, 249, 251, 499, 501, 0xFFFF];
@@ -163,10 +163,10 @@ fn damage_record(record: &mut [u8; 32], random: &mut Random, place: &Place) {
         }
         3 => record[8] = random.pick(&[15, 16, 17, 255]),
         4 => record[random.below(32) as usize] = random.byte(),
-        5 => put_factors(record, factors_of(random, u64::from(capacity) + 1)),
+        5 => put_factors(record, factors_of(random, capacity + 1)),
         6 => put_factors(record, random.pick(&FAR_ABOVE)),
         7 => {
-            let below = u64::from(place.position).saturating_sub(1);
+            let below = place.position.saturating_sub(1);
             put_factors(record, factors_of(random, below));
         }
         8 => record[19] = random.byte(),
@@ -208,7 +208,7 @@ fn edit_full_image(bench: &mut FloppyBench, random: &mut Random) {
 struct Place {
     position: u32,
     loaded: bool,
-    product: u64,
+    product: u32,
     capacity: u32,
     size: u32,
     kinds_at: u32,
@@ -227,9 +227,9 @@ impl Place {
                 long_at(image, 12),
             )
         };
-        let product = product_in(record).min(u64::from(capacity));
+        let product = product_in(record).min(u64::from(capacity)) as u32;
         Place {
-            position: long_at(record, 0).min(product as u32),
+            position: long_at(record, 0).min(product),
             loaded: record[4] & 1 == 1,
             product,
             capacity,
@@ -282,7 +282,7 @@ fn put_fields(packet: &mut [u8; 12], random: &mut Random, place: &Place) {
             } else {
                 random.pick(&pages)
             };
-            packet[2] = packet[2] & 0xC0 | code;
+            packet[2] = packet[2] / 64 * 64 + code;
             packet[4] = allocation(random, mode_length(packet) as u8);
         }
         LOAD_UNLOAD => packet[4] = packet[4] & 0xF8 | random.pick(&[1, 1, 1, 3, 5, 7, 0, 2, 4, 6]),
@@ -294,18 +294,18 @@ fn put_fields(packet: &mut [u8; 12], random: &mut Random, place: &Place) {
 }
 
 fn block_number(random: &mut Random, place: &Place) -> u32 {
-    let product = place.product as u32;
+    let product = place.product;
     match random.below(12) {
         0 => product,
         1 => product + 1,
         2 => random.pick(&[u32::MAX, 0x8000_0000, 0x1_0000, 0x100_0000, 0x100]),
         3 | 4 => product.saturating_sub(1),
-        _ => random.below(place.product.max(1)) as u32,
+        _ => random.below(product.max(1).into()) as u32,
     }
 }
 
 fn count(random: &mut Random, place: &Place) -> u8 {
-    let to_end = (place.product as u32 - place.position).min(254) as u8;
+    let to_end = (place.product - place.position).min(254) as u8;
     let any = random.byte();
     match random.below(64) {
         0..=3 => 0,
@@ -321,7 +321,7 @@ fn count(random: &mut Random, place: &Place) -> u8 {
 
 /// Bytes that MODE SENSE has for the packet's page.
 fn mode_length(packet: &[u8; 12]) -> usize {
-    match packet[2] & 0x3F {
+    match packet[2] % 64 {
         page::CODE => length::MODE_WITH_PAGE,
         page::TAPE_CODE => length::MODE_WITH_TAPE_PAGE,
         _ => length::MODE_HEADER,
@@ -331,7 +331,7 @@ fn mode_length(packet: &[u8; 12]) -> usize {
 /// A data buffer: as long as needed mostly, then longer, one shorter, or any.
 fn buffer_for(random: &mut Random, packet: &[u8; 12], place: &Place) -> Vec<u8> {
     let need = match packet[0] {
-        READ | WRITE => u64::from(packet[4]) * u64::from(place.size),
+        READ | WRITE => u64::from(u32::from(packet[4]) * place.size),
         REQUEST_SENSE => u64::from(packet[4].min(length::SENSE as u8)),
         INQUIRY => u64::from(packet[4].min(length::INQUIRY as u8)),
         MODE_SELECT => u64::from(packet[4]),
@@ -364,8 +364,7 @@ fn put_parameter_list(random: &mut Random, list: &mut [u8], place: &Place) {
 
 /// Factors around the capacity and the position.
 fn listed_factors(random: &mut Random, place: &Place) -> Factors {
-    let position = u64::from(place.position);
-    let capacity = u64::from(place.capacity);
+    let (position, capacity) = (place.position, place.capacity);
     match random.below(16) {
         0 | 1 => factors_of(random, capacity),
         2 | 3 => factors_of(random, position),
@@ -379,12 +378,12 @@ fn listed_factors(random: &mut Random, place: &Place) -> Factors {
             random.number() as u16,
             random.number() as u16,
         ),
-        _ => factors_within(random, place.capacity),
+        _ => factors_within(random, capacity),
     }
 }
 
 /// Factors whose product is this number, at most 65,536; of 0, one is 0 and the others are any.
-pub fn factors_of(random: &mut Random, product: u64) -> Factors {
+pub fn factors_of(random: &mut Random, product: u32) -> Factors {
     if product == 0 {
         let any = (
             random.byte(),
@@ -408,8 +407,8 @@ pub fn factors_of(random: &mut Random, product: u64) -> Factors {
 }
 
 /// A divisor of the number, at most `highest`.
-fn divisor(random: &mut Random, number: u64, highest: u64) -> u64 {
-    let divisors: Vec<u64> = (1..=number.min(highest))
+fn divisor(random: &mut Random, number: u32, highest: u32) -> u32 {
+    let divisors: Vec<u32> = (1..=number.min(highest))
         .filter(|candidate| number / candidate * candidate == number)
         .collect();
     random.pick(&divisors)
@@ -448,7 +447,7 @@ pub fn valid_record(random: &mut Random, image: &[u8]) -> [u8; 32] {
     }
     let factors = match random.below(8) {
         0 => factors_of(random, 0),
-        1 | 2 => factors_of(random, u64::from(capacity)),
+        1 | 2 => factors_of(random, capacity),
         _ => factors_within(random, capacity),
     };
     put_factors(&mut record, factors);
@@ -468,6 +467,7 @@ pub fn put_factors(record: &mut [u8; 32], factors: Factors) {
     put_word(record, 22, factors.2);
 }
 
+/// BSEG*SEGTRK*TRKS, which can pass 32 bits.
 pub fn product_in(record: &[u8; 32]) -> u64 {
     u64::from(record[18]) * u64::from(word_at(record, 20)) * u64::from(word_at(record, 22))
 }

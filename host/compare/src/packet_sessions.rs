@@ -3,7 +3,7 @@
 use tapecard::bytes::opcode::*;
 use tapecard::bytes::{length, page};
 
-use crate::bytes::{long_at, put_long, put_word, word_at};
+use crate::bytes::{count_at, long_at, put_count, put_long, put_word, word_at};
 use crate::images::{AllowedEdit, Shape, damage_image};
 use crate::{Difference, PacketBench, Random};
 
@@ -23,6 +23,9 @@ const WEIGHTS: [(u8, u64); 13] = [
     (LOCATE, 8),
     (READ_POSITION, 5),
 ];
+
+/// Counts of three bytes are below this.
+const COUNTS_END: u32 = 0x100_0000;
 
 /// A transfer that needs more than this gets a buffer that is too short.
 const LARGEST_BUFFER: u64 = 1 << 20;
@@ -234,18 +237,18 @@ fn put_fields(packet: &mut [u8; 12], random: &mut Random, place: &Place) {
     match packet[0] {
         READ | WRITE => {
             packet[1] = packet[1] & 0xFE | u8::from(!random.percent(4));
-            put_count(packet, count(random, place));
+            put_count(packet, 2, count(random, place));
         }
-        WRITE_FILEMARK => put_count(packet, count(random, place)),
+        WRITE_FILEMARK => put_count(packet, 2, count(random, place)),
         SPACE => {
             let code = random.pick(&[0, 0, 0, 0, 1, 1, 1, 1, 3, 2, 4, 5, 6, 7]);
-            packet[1] = packet[1] & 0xF8 | code;
-            put_count(packet, signed_count(random, place));
+            packet[1] = packet[1] / 8 * 8 + code;
+            put_count(packet, 2, signed_count(random, place));
         }
         MODE_SELECT => packet[4] = random.pick(&[0, 12, 32, 32, 32, 32, 11, 13, 31, 33, 255]),
         MODE_SENSE => {
-            packet[2] = packet[2] & 0xC0
-                | random.pick(&[0, 0, page::CODE, page::CODE, page::CODE, 0x2B, 0x3F]);
+            let pages = [0, 0, page::CODE, page::CODE, page::CODE, 0x2B, 0x3F];
+            packet[2] = packet[2] / 64 * 64 + random.pick(&pages);
             packet[4] = allocation(random, length::MODE_WITH_PAGE as u8);
         }
         LOAD_UNLOAD => packet[4] = packet[4] & 0xF8 | random.pick(&[1, 1, 1, 3, 0, 2, 4, 5, 6, 7]),
@@ -287,7 +290,7 @@ fn count(random: &mut Random, place: &Place) -> u32 {
         4 => to_capacity + 1,
         5 => random.below(u64::from(place.capacity) + 3) as u32,
         6 => random.pick(&[0xFF_FFFF, 0x80_0000, 0x40_0000, 0x7F_FFFF, 0x1_0000]),
-        7 => random.below(1 << 24) as u32,
+        7 => random.below(COUNTS_END.into()) as u32,
         8 | 9 => 2,
         10 => 3,
         _ => 1,
@@ -296,11 +299,11 @@ fn count(random: &mut Random, place: &Place) -> u32 {
 
 /// A count in two's complement of 24 bits.
 fn signed_count(random: &mut Random, place: &Place) -> u32 {
-    let back = |magnitude: u32| 0x100_0000 - magnitude.max(1);
+    let back = |magnitude: u32| COUNTS_END - magnitude.max(1);
     match random.below(16) {
         0 => 0,
         1 => random.pick(&[0x7F_FFFF, 0x80_0000, 0x80_0001, 0xFF_FFFF]),
-        2 => random.below(1 << 24) as u32,
+        2 => random.below(COUNTS_END.into()) as u32,
         3 => place.recorded - place.position,
         4 => place.recorded - place.position + 1,
         5 => back(place.position),
@@ -313,11 +316,12 @@ fn signed_count(random: &mut Random, place: &Place) -> u32 {
 /// A data buffer: as long as needed mostly, then longer, one shorter, or any.
 fn buffer_for(random: &mut Random, packet: &[u8; 12], place: &Place) -> Vec<u8> {
     let need = match packet[0] {
-        READ | WRITE => u64::from(count_in(packet)) * u64::from(place.size),
+        // N*B can pass 32 bits.
+        READ | WRITE => u64::from(count_at(packet, 2)) * u64::from(place.size),
         REQUEST_SENSE => u64::from(packet[4].min(length::SENSE as u8)),
         INQUIRY => u64::from(packet[4].min(length::INQUIRY as u8)),
         MODE_SELECT => u64::from(packet[4]),
-        MODE_SENSE if packet[2] & 0x3F == 0 => u64::from(packet[4].min(length::MODE_HEADER as u8)),
+        MODE_SENSE if packet[2] % 64 == 0 => u64::from(packet[4].min(length::MODE_HEADER as u8)),
         MODE_SENSE => u64::from(packet[4].min(length::MODE_WITH_PAGE as u8)),
         READ_POSITION => length::POSITION as u64,
         _ => 0,
@@ -388,12 +392,4 @@ pub fn valid_record(random: &mut Random, image: &[u8]) -> [u8; 16] {
         record[4] |= random.byte() & 0xFE;
     }
     record
-}
-
-pub fn count_in(packet: &[u8; 12]) -> u32 {
-    u32::from_be_bytes([0, packet[2], packet[3], packet[4]])
-}
-
-pub fn put_count(packet: &mut [u8; 12], count: u32) {
-    packet[2..5].copy_from_slice(&count.to_be_bytes()[1..]);
 }

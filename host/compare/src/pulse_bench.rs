@@ -6,6 +6,7 @@ use model::Bug;
 use model::pulse::Branch;
 use tapecard::raw;
 
+use crate::bytes::long_at;
 use crate::{Difference, Guarded, Origin};
 
 /// What an answer holds before a call, to see that the whole of it is written.
@@ -188,7 +189,6 @@ impl PulseBench {
         }
         self.seen.errors.insert(self.record()[14]);
         self.seen.levels.insert(answer[1]);
-        let ticks = u32::from_be_bytes([answer[4], answer[5], answer[6], answer[7]]);
-        self.seen.longest_wait = self.seen.longest_wait.max(ticks);
+        self.seen.longest_wait = self.seen.longest_wait.max(long_at(&answer, 4));
     }
 }

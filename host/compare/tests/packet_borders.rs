@@ -2,8 +2,7 @@
 
 use std::collections::BTreeSet;
 
-use compare::bytes::{put_long, put_word};
-use compare::packet_sessions::put_count;
+use compare::bytes::{put_count, put_long, put_word};
 use compare::{Difference, PacketBench, Random, Shape, agree, say};
 use model::Bug;
 use model::packet::Ending;
@@ -38,7 +37,7 @@ fn plain(opcode: u8, byte_1: u8, count: u32) -> [u8; 12] {
     let mut packet = [0; 12];
     packet[0] = opcode;
     packet[1] = byte_1;
-    put_count(&mut packet, count);
+    put_count(&mut packet, 2, count);
     packet
 }
 
@@ -233,7 +232,7 @@ fn lengths_around(
 
 /// N * B passes 32 bits.
 fn huge_counts(bench: &mut PacketBench, image: &[u8], size: u16) -> Outcome {
-    let wraps = (1u64 << 32) / u64::from(size);
+    let wraps = 0x1_0000_0000 / u64::from(size);
     for opcode in [opcode::READ, opcode::WRITE] {
         for count in [0xFF_FFFF, 0x80_0000, wraps as u32, wraps as u32 + 1] {
             for length in [0, 512, 1024, 4096] {

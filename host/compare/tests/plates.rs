@@ -2,8 +2,7 @@
 
 use std::collections::VecDeque;
 
-use compare::bytes::{long_at, put_long, word_at};
-use compare::packet_sessions::put_count;
+use compare::bytes::{long_at, put_count, put_long, word_at};
 use compare::pulse_sessions;
 use compare::{FloppyBench, ImageBench, PacketBench, PulseBench, PulseCall, Random, Shape, agree};
 use model::Bug;
@@ -36,7 +35,7 @@ fn send<const RECORD: usize>(bench: &mut ImageBench<RECORD>, opcode: u8, byte_1:
     let mut packet = [0; 12];
     packet[0] = opcode;
     packet[1] = byte_1;
-    put_count(&mut packet, count);
+    put_count(&mut packet, 2, count);
     send_packet(bench, &packet);
 }
 

@@ -30,7 +30,7 @@ fn small_records() -> Vec<[u8; 32]> {
     for flags in 0..16 {
         for error in [0, 7, 27] {
             let mut record = [0; 32];
-            record[0] = flags << 1;
+            record[0] = 2 * flags;
             record[14] = error;
             records.push(record);
         }

@@ -1,5 +1,8 @@
 //! Known mistakes that can be planted in the model.
 
+/// A sum or product that is kept in 32 bits by mistake is the remainder by this.
+pub(crate) const TWO_TO_THE_32: u64 = 0x1_0000_0000;
+
 /// A planted mistake, or none.
 #[derive(Clone, Copy, Debug, PartialEq, Eq, Hash)]
 pub enum Bug {

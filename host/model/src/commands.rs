@@ -64,7 +64,7 @@ pub fn fill(data: &mut [u8], packet: &[u8], whole: &[u8]) -> Reply {
 
 // "page (byte 2, six bits)".
 pub fn page_code(packet: &[u8]) -> u8 {
-    packet[2] & 0x3F
+    packet[2] % 64
 }
 
 // "Byte 0 is 70h, F0h when valid; 2: filemark 80h, EOM 40h, key in the low four bits; 3-6 information; 7 is 0Ch, also when

@@ -1,7 +1,7 @@
 //! The floppy tape device over a lent cartridge image, written from request A1 of 02: blocks by number, no filemarks. For all that
 //! A1 and 004 leave open 01 holds, as for the stream device.
 
-use crate::Bug;
+use crate::bug::{Bug, TWO_TO_THE_32};
 use crate::bytes::{long_at, put_word, triple_at, word_at};
 use crate::commands::*;
 use crate::image::{Header, Kind};
@@ -140,13 +140,13 @@ impl Parameters {
         }
     }
 
-    // "BSEG*SEGTRK*TRKS" (02, A1): up to 255 * 65,535 * 65,535.
+    // "BSEG*SEGTRK*TRKS" (02, A1): up to 255 * 65,535 * 65,535, which passes 32 bits.
     fn product(&self, bug: Bug) -> u64 {
         let blocks_per_track =
             u64::from(self.blocks_per_segment) * u64::from(self.segments_per_track);
         let product = blocks_per_track * u64::from(self.tracks);
         if bug == Bug::ProductWraps {
-            return product % (1 << 32);
+            return product % TWO_TO_THE_32;
         }
         product
     }
@@ -290,8 +290,8 @@ impl Drive<'_> {
         u32::from(self.packet[4])
     }
 
-    fn block_number(&self) -> u64 {
-        u64::from(long_at(self.packet, 3))
+    fn block_number(&self) -> u32 {
+        long_at(self.packet, 3)
     }
 
     fn product(&self) -> u64 {
@@ -301,13 +301,12 @@ impl Drive<'_> {
     // "3 also when the product exceeds C or P exceeds the product" (02, A1); 01: "P > U" (U is C here, and so no less than the
     // product), "a speed outside the five, or a sense key above 15".
     fn record_keeps_rules(&self, header: &Header) -> bool {
-        let position = u64::from(self.state.position);
         let product_kept = self.product() <= u64::from(header.capacity)
             || self.bug == Bug::ProductAboveCapacityTaken;
         let position_kept = if self.bug == Bug::PositionAtProductRefused {
-            position < self.product()
+            u64::from(self.state.position) < self.product()
         } else {
-            position <= self.product()
+            u64::from(self.state.position) <= self.product()
         };
         product_kept
             && position_kept
@@ -326,8 +325,10 @@ impl Drive<'_> {
             MODE_SELECT if ![0, 12, 28, 32].contains(&byte_4) => return Some(bad_list_length()),
             // "LOCATE runs to BSEG*SEGTRK*TRKS - 1"; "a locate past the last block is 5/24/00" (02, A1).
             LOCATE if self.bug == Bug::LocateWaitsForReady && !self.state.loaded => false,
-            LOCATE if self.bug == Bug::LocateTakesProduct => self.block_number() > self.product(),
-            LOCATE => self.block_number() >= self.product(),
+            LOCATE if self.bug == Bug::LocateTakesProduct => {
+                u64::from(self.block_number()) > self.product()
+            }
+            LOCATE => u64::from(self.block_number()) >= self.product(),
             // Bit 2 of byte 4 is reserved here (004).
             LOAD_UNLOAD => self.bug == Bug::LoadMindsEot && byte_4 & 5 == 5,
             _ => false,
@@ -335,7 +336,7 @@ impl Drive<'_> {
         wrong.then(bad_field)
     }
 
-    // 01: "a lent data buffer is shorter than this transfer needs".
+    // 01: "a lent data buffer is shorter than this transfer needs". N*B passes 32 bits only where a mistake takes N from three bytes.
     fn bytes_needed(&self, header: &Header) -> u64 {
         match self.opcode() {
             REQUEST_SENSE => shortened(self.packet, SENSE_LENGTH) as u64,
@@ -388,7 +389,7 @@ impl Drive<'_> {
             MODE_SENSE => self.mode_sense(header),
             LOAD_UNLOAD => self.load_unload(header),
             LOCATE => {
-                self.state.position = self.block_number() as u32;
+                self.state.position = self.block_number();
                 Reply::good()
             }
             // "10h flushes and stores nothing" (02, A1). 01: "00h: GOOD."
@@ -484,11 +485,10 @@ impl Drive<'_> {
         match length {
             28 => {
                 self.parameters = self.listed_parameters();
-                let position = u64::from(self.state.position);
                 let below = match self.bug {
                     Bug::ListBelowKeepsPosition => false,
-                    Bug::ListAtPositionRewinds => self.product() <= position,
-                    _ => self.product() < position,
+                    Bug::ListAtPositionRewinds => self.product() <= u64::from(self.state.position),
+                    _ => self.product() < u64::from(self.state.position),
                 };
                 if below {
                     self.state.position = 0;

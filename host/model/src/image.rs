@@ -1,6 +1,6 @@
 //! The cartridge image: its header's rules and its elements.
 
-use crate::Bug;
+use crate::bug::{Bug, TWO_TO_THE_32};
 use crate::bytes::{long_at, put_long, word_at};
 
 const HEADER_LENGTH: usize = 32;
@@ -72,14 +72,14 @@ impl Header {
             && self.early_warning <= self.capacity
     }
 
-    // "Also K >= 32, K + C <= D, D + C*B <= image length."
+    // "Also K >= 32, K + C <= D, D + C*B <= image length." Both sums can pass 32 bits.
     fn parts_fit(&self, bug: Bug, image_length: u64) -> bool {
         let mut kinds_end = u64::from(self.kinds_at) + u64::from(self.capacity);
         let mut blocks_end =
             u64::from(self.blocks_at) + u64::from(self.capacity) * u64::from(self.block_size);
         if bug == Bug::SizeWraps {
-            kinds_end %= 1 << 32;
-            blocks_end %= 1 << 32;
+            kinds_end %= TWO_TO_THE_32;
+            blocks_end %= TWO_TO_THE_32;
         }
         self.kinds_at >= 32 && kinds_end <= u64::from(self.blocks_at) && blocks_end <= image_length
     }

@@ -1,6 +1,6 @@
 //! The packet drive over a lent cartridge image.
 
-use crate::Bug;
+use crate::bug::{Bug, TWO_TO_THE_32};
 use crate::bytes::{long_at, put_long, triple_at};
 use crate::commands::*;
 use crate::image::{Header, Kind};
@@ -186,7 +186,7 @@ impl Drive<'_> {
             // "byte 1 bit 0 must be 1." "0Ah WRITE, same fields".
             READ | WRITE => byte_1 & 1 == 0,
             // "code in byte 1 bits 0-2 .. Other codes 24/00."
-            SPACE => ![SPACE_BLOCKS, SPACE_FILEMARKS, SPACE_TO_END].contains(&(byte_1 & 7)),
+            SPACE => ![SPACE_BLOCKS, SPACE_FILEMARKS, SPACE_TO_END].contains(&(byte_1 % 8)),
             // "page (byte 2, six bits) 00h or 2Ah, else 24/00."
             MODE_SENSE => ![0x00, CAPABILITIES].contains(&page_code(self.packet)),
             // "list length (byte 4, a field) 0, 12 or 32, else 5/1A/00."
@@ -202,14 +202,14 @@ impl Drive<'_> {
         wrong.then(bad_field)
     }
 
-    // "a lent data buffer is shorter than this transfer needs".
+    // "a lent data buffer is shorter than this transfer needs". N*B can pass 32 bits.
     fn bytes_needed(&self, header: &Header) -> u64 {
         match self.opcode() {
             REQUEST_SENSE => shortened(self.packet, SENSE_LENGTH) as u64,
             READ | WRITE => {
                 let need = u64::from(self.count()) * u64::from(header.block_size);
                 if self.bug == Bug::NeedWraps {
-                    need % (1 << 32)
+                    need % TWO_TO_THE_32
                 } else {
                     need
                 }
@@ -238,7 +238,7 @@ impl Drive<'_> {
         }
         let mut page = self.data[MODE_HEADER_LENGTH..MODE_WHOLE_LENGTH].to_vec();
         if self.bug == Bug::PageCodeMasked {
-            page[0] &= 0x3F;
+            page[0] %= 64;
         }
         capabilities_are_right(&page)
     }
@@ -409,7 +409,7 @@ impl Drive<'_> {
 
     // "11h SPACE, code in byte 1 bits 0-2; bytes 2-4 are a signed count, two's complement." "Code 3: P = U."
     fn space(&mut self, header: &Header) -> Reply {
-        let code = self.packet[1] & 7;
+        let code = self.packet[1] % 8;
         if code == SPACE_TO_END {
             self.state.position = header.recorded;
             return Reply::good();

@@ -1,5 +1,6 @@
-//! The bytes that packets, answers and trains are made of, by their names: each stands here and nowhere else in host/, but for
-//! the model, which is written from 01 and 02 alone.
+//! The bytes that packets, answers and trains are made of, by their names, and the numbers of two, three and four bytes that stand
+//! among them, the highest byte first: each is here and nowhere else in host/, but for the model, which is written from 01 and 02
+//! alone.
 
 /// First bytes of the packets that the packet drive knows.
 pub mod opcode {
@@ -154,4 +155,71 @@ pub mod train {
         SKIP_FAR_REVERSE,
         SKIP_FAR_FORWARD,
     ];
+}
+
+/// A number of two bytes.
+#[inline]
+pub fn word_at(bytes: &[u8], at: usize) -> u16 {
+    u16::from_be_bytes([bytes[at], bytes[at + 1]])
+}
+
+/// A count of three bytes, as packets have it.
+#[inline]
+pub fn count_at(bytes: &[u8], at: usize) -> u32 {
+    u32::from_be_bytes([0, bytes[at], bytes[at + 1], bytes[at + 2]])
+}
+
+/// A number of four bytes.
+#[inline]
+pub fn long_at(bytes: &[u8], at: usize) -> u32 {
+    u32::from_be_bytes([bytes[at], bytes[at + 1], bytes[at + 2], bytes[at + 3]])
+}
+
+#[inline]
+pub fn put_word(bytes: &mut [u8], at: usize, value: u16) {
+    bytes[at..at + 2].copy_from_slice(&value.to_be_bytes());
+}
+
+/// The lower three bytes of a count.
+#[inline]
+pub fn put_count(bytes: &mut [u8], at: usize, value: u32) {
+    let [_, high, middle, low] = value.to_be_bytes();
+    bytes[at..at + 3].copy_from_slice(&[high, middle, low]);
+}
+
+#[inline]
+pub fn put_long(bytes: &mut [u8], at: usize, value: u32) {
+    bytes[at..at + 4].copy_from_slice(&value.to_be_bytes());
+}
+
+#[cfg(test)]
+mod tests {
+    use super::*;
+
+    /// Bytes, and their first two, three and four as a number.
+    const NUMBERS: [([u8; 4], u16, u32, u32); 2] = [
+        ([1, 2, 3, 4], 0x0102, 0x01_0203, 0x0102_0304),
+        ([0xFF, 0xFE, 0xFD, 0xFC], 0xFFFE, 0xFF_FEFD, 0xFFFE_FDFC),
+    ];
+
+    #[test]
+    fn the_first_byte_is_the_highest() {
+        for ([a, b, c, d], word, count, long) in NUMBERS {
+            let bytes = [0x55, a, b, c, d];
+            assert_eq!(word_at(&bytes, 1), word);
+            assert_eq!(count_at(&bytes, 1), count);
+            assert_eq!(long_at(&bytes, 1), long);
+        }
+    }
+
+    #[test]
+    fn what_is_put_is_found_and_the_bytes_beside_it_stay() {
+        for ([a, b, c, d], word, count, long) in NUMBERS {
+            let mut bytes = [0x55; 13];
+            put_word(&mut bytes, 1, word);
+            put_count(&mut bytes, 4, count);
+            put_long(&mut bytes, 8, long);
+            assert_eq!(bytes, [0x55, a, b, 0x55, a, b, c, 0x55, a, b, c, d, 0x55]);
+        }
+    }
 }

@@ -1,7 +1,7 @@
 //! The packet drive's floppy device: a record of 32 bytes, a lent cartridge image whose every element is recorded, 12-byte packets.
 //! Blocks go by their number, there are no filemarks, and a block is rewritten in place.
 
-use crate::bytes::{length, page};
+use crate::bytes::{length, page, put_word, word_at};
 use crate::packet::{self, Answer, Attention, Sense};
 use crate::{Device, Refusal, ffi};
 
@@ -76,8 +76,8 @@ impl Record {
             density: self.0[16],
             fill: self.0[17],
             bseg: self.0[18],
-            segtrk: self.word(20),
-            trks: self.word(22),
+            segtrk: word_at(&self.0, 20),
+            trks: word_at(&self.0, 22),
             max_sector: self.0[24],
             max_cylinder: self.0[25],
             max_head: self.0[26],
@@ -93,10 +93,6 @@ impl Record {
         bytes.copy_from_slice(&self.0[..16]);
         packet::Record(bytes)
     }
-
-    fn word(&self, at: usize) -> u16 {
-        u16::from_be_bytes([self.0[at], self.0[at + 1]])
-    }
 }
 
 impl Tape {
@@ -104,14 +100,14 @@ impl Tape {
     const RM: u8 = 0x40;
     const FW: u8 = 0x20;
 
-    /// BSEG*SEGTRK*TRKS: how many blocks the tape has. Transfers end there, and LOCATE goes to one less.
+    /// BSEG*SEGTRK*TRKS, which can pass 32 bits: how many blocks the tape has. Transfers end there, and LOCATE goes to one less.
     pub fn product(&self) -> u64 {
         u64::from(self.bseg) * u64::from(self.segtrk) * u64::from(self.trks)
     }
 
     pub fn flags(&self) -> u8 {
         let flag = |set: bool, bit: u8| if set { bit } else { 0 };
-        flag(self.wdam, Tape::WDAM) | flag(self.rm, Tape::RM) | flag(self.fw, Tape::FW)
+        flag(self.wdam, Tape::WDAM) + flag(self.rm, Tape::RM) + flag(self.fw, Tape::FW)
     }
 
     /// The list by which MODE SELECT sets these parameters: twelve bytes of header, then the page.
@@ -119,8 +115,8 @@ impl Tape {
         let mut list = [0; length::MODE_WITH_TAPE_PAGE];
         list[12..15].copy_from_slice(&[page::TAPE_CODE, page::TAPE_LENGTH, self.density]);
         list[16..18].copy_from_slice(&[self.fill, self.bseg]);
-        list[18..20].copy_from_slice(&self.segtrk.to_be_bytes());
-        list[20..22].copy_from_slice(&self.trks.to_be_bytes());
+        put_word(&mut list, 18, self.segtrk);
+        put_word(&mut list, 20, self.trks);
         list[22..25].copy_from_slice(&[self.max_sector, self.max_cylinder, self.max_head]);
         list[27] = self.flags();
         list

@@ -2,6 +2,7 @@
 //! the floppy device's too.
 
 use crate::bytes::triple::Triple;
+use crate::bytes::{long_at, word_at};
 use crate::{Device, Refusal, ffi};
 
 /// Status of a packet that ended well.
@@ -80,7 +81,7 @@ impl Record {
 
     /// 0 (automatic), 62, 125, 250 or 500.
     pub fn speed(&self) -> u16 {
-        u16::from_be_bytes([self.0[6], self.0[7]])
+        word_at(&self.0, 6)
     }
 
     pub fn sense(&self) -> Sense {
@@ -129,8 +130,4 @@ pub fn packet(
     let mut answer = [0; 16];
     ffi::packet(&mut record.0, image, packet, data, &mut answer);
     Answer::read(Device::Stream, &answer)
-}
-
-fn long_at(bytes: &[u8; 16], at: usize) -> u32 {
-    u32::from_be_bytes([bytes[at], bytes[at + 1], bytes[at + 2], bytes[at + 3]])
 }

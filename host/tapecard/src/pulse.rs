@@ -2,6 +2,7 @@
 
 use std::fmt;
 
+use crate::bytes::{long_at, put_word, word_at};
 use crate::{Device, Refusal, ffi};
 
 /// The drive's record in the bytes that a card keeps.
@@ -88,12 +89,12 @@ impl Record {
         let mut answer = [0; 8];
         ffi::pulse_wait(&mut self.0, limit, &mut answer);
         let level = level_of(&answer)?;
-        let ticks = u32::from_be_bytes([answer[4], answer[5], answer[6], answer[7]]);
+        let ticks = long_at(&answer, 4);
         Ok(Waited { level, ticks })
     }
 
     pub fn cartridge_in(&self) -> bool {
-        self.flag(0)
+        self.flag(1)
     }
 
     /// The cartridge that is in, with the place it stands at now.
@@ -111,22 +112,22 @@ impl Record {
     }
 
     pub fn referenced(&self) -> bool {
-        self.flag(1)
+        self.flag(2)
     }
 
     /// The cartridge is new: its mark was not cleared yet.
     pub fn new_mark(&self) -> bool {
-        self.flag(2)
+        self.flag(4)
     }
 
     /// Status was asked while ready since insertion or reset.
     pub fn status_asked(&self) -> bool {
-        self.flag(3)
+        self.flag(8)
     }
 
     /// The next 2 repeats the last level.
     pub fn repeat_owed(&self) -> bool {
-        self.flag(4)
+        self.flag(16)
     }
 
     pub fn motion(&self) -> Motion {
@@ -143,7 +144,7 @@ impl Record {
     }
 
     pub fn segments(&self) -> u16 {
-        self.word(2)
+        word_at(&self.0, 2)
     }
 
     pub fn tracks(&self) -> u8 {
@@ -173,11 +174,11 @@ impl Record {
     }
 
     pub fn place(&self) -> u16 {
-        self.word(8)
+        word_at(&self.0, 8)
     }
 
     pub fn target(&self) -> u16 {
-        self.word(10)
+        word_at(&self.0, 10)
     }
 
     /// Ticks until a motion ends.
@@ -217,7 +218,7 @@ impl Record {
         if self.report_left() == 0 {
             0
         } else {
-            self.word(18)
+            word_at(&self.0, 18)
         }
     }
 
@@ -242,42 +243,33 @@ impl Record {
             .checked_pow(held)
             .unwrap_or(u32::MAX)
             .min(u32::from(u16::MAX) + 1);
-        (u32::from(self.word(22)) % kept) as u16
+        (u32::from(word_at(&self.0, 22)) % kept) as u16
     }
 
     pub fn vendor(&self) -> u16 {
-        self.word(24)
+        word_at(&self.0, 24)
     }
 
     pub fn rom(&self) -> u8 {
         self.0[26]
     }
 
-    fn flag(&self, bit: u32) -> bool {
-        self.0[0] >> bit & 1 != 0
-    }
-
-    fn word(&self, at: usize) -> u16 {
-        u16::from_be_bytes([self.0[at], self.0[at + 1]])
+    fn flag(&self, bit: u8) -> bool {
+        self.0[0] & bit != 0
     }
 }
 
 impl Cartridge {
     /// The description in the layout's 8 bytes.
     pub fn bytes(&self) -> [u8; 8] {
-        let segments = self.segments.to_be_bytes();
-        let place = self.place.to_be_bytes();
-        let flags = u8::from(self.protected) | u8::from(self.burst) << 1 | u8::from(self.wide) << 2;
-        [
-            segments[0],
-            segments[1],
-            self.tracks,
-            place[0],
-            place[1],
-            flags,
-            self.format,
-            self.kind,
-        ]
+        let mut bytes = [0; 8];
+        put_word(&mut bytes, 0, self.segments);
+        bytes[2] = self.tracks;
+        put_word(&mut bytes, 3, self.place);
+        bytes[5] = u8::from(self.protected) + 2 * u8::from(self.burst) + 4 * u8::from(self.wide);
+        bytes[6] = self.format;
+        bytes[7] = self.kind;
+        bytes
     }
 }
 

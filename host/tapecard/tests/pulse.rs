@@ -47,6 +47,18 @@ fn power_on() {
 }
 
 #[test]
+fn a_description_in_its_bytes() {
+    let wide = Cartridge {
+        place: 300,
+        protected: false,
+        wide: true,
+        ..CARTRIDGE
+    };
+    assert_eq!(CARTRIDGE.bytes(), [2, 88, 28, 0, 40, 3, 2, 3]);
+    assert_eq!(wide.bytes(), [2, 88, 28, 1, 44, 6, 2, 3]);
+}
+
+#[test]
 fn insertion_loads() {
     let mut record = Record::power_on(0, 0);
     assert_eq!(record.insert(&CARTRIDGE), Ok(Level(false)));

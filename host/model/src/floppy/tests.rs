@@ -1,6 +1,7 @@
 //! The floppy tape device's plates, each worked out by hand from the words of 02's A1 and of 01.
 
 use super::*;
+use crate::bytes::put_long;
 
 const BLOCK: usize = 512;
 const SENSE_OF_20: [u8; 12] = [0x03, 0, 0, 0, 20, 0, 0, 0, 0, 0, 0, 0];
@@ -123,10 +124,9 @@ fn write(count: u8) -> [u8; 12] {
 }
 
 fn locate(block: u32) -> [u8; 12] {
-    let number = block.to_be_bytes();
-    [
-        0x2B, 0, 0, number[0], number[1], number[2], number[3], 0, 0, 0, 0, 0,
-    ]
+    let mut packet = [0x2B, 0, 0, 0, 0, 0, 0, 0, 0, 0, 0, 0];
+    put_long(&mut packet, 3, block);
+    packet
 }
 
 fn mode_sense(page: u8) -> [u8; 12] {

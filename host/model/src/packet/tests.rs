@@ -120,10 +120,8 @@ fn short(opcode: u8, byte_4: u8) -> [u8; 12] {
 }
 
 fn counted(opcode: u8, byte_1: u8, count: u32) -> [u8; 12] {
-    let count = count.to_be_bytes();
-    [
-        opcode, byte_1, count[1], count[2], count[3], 0, 0, 0, 0, 0, 0, 0,
-    ]
+    let [_, high, middle, low] = count.to_be_bytes();
+    [opcode, byte_1, high, middle, low, 0, 0, 0, 0, 0, 0, 0]
 }
 
 fn spaced(code: u8, count: i32) -> [u8; 12] {
@@ -131,10 +129,9 @@ fn spaced(code: u8, count: i32) -> [u8; 12] {
 }
 
 fn located(byte_1: u8, target: u32) -> [u8; 12] {
-    let target = target.to_be_bytes();
-    [
-        LOCATE, byte_1, 0, target[0], target[1], target[2], target[3], 0, 0, 0, 0, 0,
-    ]
+    let mut packet = [LOCATE, byte_1, 0, 0, 0, 0, 0, 0, 0, 0, 0, 0];
+    put_long(&mut packet, 3, target);
+    packet
 }
 
 #[test]

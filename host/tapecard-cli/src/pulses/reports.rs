@@ -162,7 +162,7 @@ fn tape_status(bits: &[bool]) -> Vec<String> {
 
 /// The number that bits make, lowest first.
 fn number(bits: &[bool]) -> u16 {
-    let add = |sum: u16, bit: &bool| sum << 1 | u16::from(*bit);
+    let add = |sum: u16, bit: &bool| sum * 2 + u16::from(*bit);
     bits.iter().rev().fold(0, add)
 }
 

@@ -1,6 +1,6 @@
 //! The 32 bytes at the start of a cartridge image: laid out for a fresh image, read to be shown.
 
-use tapecard::bytes::kind;
+use tapecard::bytes::{kind, long_at, put_long, put_word, word_at};
 
 pub const LENGTH: usize = 32;
 pub const LARGEST_CAPACITY: u32 = 65_535;
@@ -23,7 +23,7 @@ pub struct Header {
     pub medium: u8,
     /// How many elements before the end the early warning begins.
     pub early_warning: u16,
-    zero: u64,
+    zero: [u8; 8],
 }
 
 impl Header {
@@ -45,7 +45,7 @@ impl Header {
             protect: protected.into(),
             medium,
             early_warning,
-            zero: 0,
+            zero: [0; 8],
         }
     }
 
@@ -60,33 +60,31 @@ impl Header {
     /// The fields, whether they keep their rules or not; `None` where the bytes are too few.
     pub fn read(image: &[u8]) -> Option<Header> {
         let bytes = image.first_chunk::<LENGTH>()?;
-        let word = |at: usize| u16::from_be_bytes([bytes[at], bytes[at + 1]]);
-        let long = |at: usize| u32::from(word(at)) << 16 | u32::from(word(at + 2));
         Some(Header {
-            length: word(0),
-            block_size: word(2),
-            capacity: long(4),
-            recorded: long(8),
-            kinds_at: long(12),
-            blocks_at: long(16),
+            length: word_at(bytes, 0),
+            block_size: word_at(bytes, 2),
+            capacity: long_at(bytes, 4),
+            recorded: long_at(bytes, 8),
+            kinds_at: long_at(bytes, 12),
+            blocks_at: long_at(bytes, 16),
             protect: bytes[20],
             medium: bytes[21],
-            early_warning: word(22),
-            zero: u64::from(long(24)) << 32 | u64::from(long(28)),
+            early_warning: word_at(bytes, 22),
+            zero: *bytes.last_chunk()?,
         })
     }
 
     pub fn bytes(&self) -> [u8; LENGTH] {
         let mut bytes = [0; LENGTH];
-        bytes[0..2].copy_from_slice(&self.length.to_be_bytes());
-        bytes[2..4].copy_from_slice(&self.block_size.to_be_bytes());
-        bytes[4..8].copy_from_slice(&self.capacity.to_be_bytes());
-        bytes[8..12].copy_from_slice(&self.recorded.to_be_bytes());
-        bytes[12..16].copy_from_slice(&self.kinds_at.to_be_bytes());
-        bytes[16..20].copy_from_slice(&self.blocks_at.to_be_bytes());
+        put_word(&mut bytes, 0, self.length);
+        put_word(&mut bytes, 2, self.block_size);
+        put_long(&mut bytes, 4, self.capacity);
+        put_long(&mut bytes, 8, self.recorded);
+        put_long(&mut bytes, 12, self.kinds_at);
+        put_long(&mut bytes, 16, self.blocks_at);
         bytes[20] = self.protect;
         bytes[21] = self.medium;
-        bytes[22..24].copy_from_slice(&self.early_warning.to_be_bytes());
+        put_word(&mut bytes, 22, self.early_warning);
         bytes
     }
 
@@ -101,19 +99,21 @@ impl Header {
 
     /// Whether an image of this length can have this header. It saves reading what is no image; the drive judges what is read.
     pub fn allows(&self, length: u64) -> bool {
-        let [capacity, kinds_at, blocks_at] =
-            [self.capacity, self.kinds_at, self.blocks_at].map(u64::from);
         let ranges = self.length as usize == LENGTH
             && [512, 1024].contains(&self.block_size)
             && (1..=LARGEST_CAPACITY).contains(&self.capacity)
             && self.recorded <= self.capacity
             && self.protect <= 1
             && u32::from(self.early_warning) <= self.capacity
-            && self.zero == 0;
+            && self.zero == [0; 8];
+        // K + C and D + C*B can pass 32 bits.
+        let kinds_end = u64::from(self.kinds_at) + u64::from(self.capacity);
+        let blocks_end =
+            u64::from(self.blocks_at) + u64::from(self.capacity) * u64::from(self.block_size);
         ranges
-            && kinds_at >= LENGTH as u64
-            && kinds_at + capacity <= blocks_at
-            && blocks_at + capacity * u64::from(self.block_size) <= length
+            && self.kinds_at >= LENGTH as u32
+            && kinds_end <= u64::from(self.blocks_at)
+            && blocks_end <= length
     }
 
     pub fn protected(&self) -> bool {

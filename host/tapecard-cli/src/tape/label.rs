@@ -94,6 +94,21 @@ mod tests {
     }
 
     #[test]
+    fn high_numbers_stand_with_their_first_byte_first() {
+        let label = Label {
+            length: 0xFFFE_FDFC_FBFA_F9F8,
+            name: vec![b'f'; 255],
+            checksum: Some(0xFFFE_FDFC),
+        };
+        let block = label.block(512);
+        assert_eq!(
+            block[8..22],
+            *b"\xFF\xFE\xFD\xFC\xFB\xFA\xF9\xF8\0\xFF\xFF\xFE\xFD\xFC"
+        );
+        assert_eq!(Label::read(&block), Some(label));
+    }
+
+    #[test]
     fn other_blocks_are_no_labels() {
         for label in [label(None), label(Some(1))] {
             let mut odd = label.block(512);

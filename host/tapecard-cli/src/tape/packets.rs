@@ -1,7 +1,7 @@
 //! The packets that the file commands send, and how many blocks a packet asks for.
 
 use tapecard::Device;
-use tapecard::bytes::{length, opcode, page, space};
+use tapecard::bytes::{count_at, length, opcode, page, put_count, put_long, space};
 
 pub type Packet = [u8; 12];
 
@@ -44,7 +44,7 @@ pub fn space_to_end_of_data() -> Packet {
 
 pub fn locate(place: u32) -> Packet {
     let mut bytes = packet(opcode::LOCATE, 0, 0);
-    bytes[3..7].copy_from_slice(&place.to_be_bytes());
+    put_long(&mut bytes, 3, place);
     bytes
 }
 
@@ -58,14 +58,15 @@ pub fn mode_sense() -> Packet {
 
 /// N of a READ or WRITE: bytes 2-4, of which the floppy device looks at byte 4 alone. None where they are not there.
 pub fn blocks_asked(device: Device, packet: &[u8]) -> Option<u32> {
-    let &[high, middle, low] = packet.get(2..5)?.first_chunk()?;
+    let count = packet.get(2..5)?;
     Some(match device {
-        Device::Floppy => low.into(),
-        _ => u32::from_be_bytes([0, high, middle, low]),
+        Device::Floppy => count[2].into(),
+        _ => count_at(count, 0),
     })
 }
 
 fn packet(opcode: u8, flags: u8, count: u32) -> Packet {
-    let [_, high, middle, low] = count.to_be_bytes();
-    [opcode, flags, high, middle, low, 0, 0, 0, 0, 0, 0, 0]
+    let mut bytes = [opcode, flags, 0, 0, 0, 0, 0, 0, 0, 0, 0, 0];
+    put_count(&mut bytes, 2, count);
+    bytes
 }

@@ -17,7 +17,7 @@ fn read_word(word: &str) -> Result<Vec<u8>, Failure> {
         Some([lone]) => Ok(vec![*lone]),
         Some(digits) if digits.len() % 2 == 0 => Ok(digits
             .chunks(2)
-            .map(|pair| pair[0] << 4 | pair[1])
+            .map(|pair| pair[0] * 16 + pair[1])
             .collect()),
         _ => Err(Failure::work(format!(
             "{word:?} is no hexadecimal byte: write each byte as two digits, as in 08 01 00 00 02"

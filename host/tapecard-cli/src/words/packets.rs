@@ -1,6 +1,6 @@
 //! Packets of the packet drive in words.
 
-use tapecard::bytes::{opcode, space};
+use tapecard::bytes::{long_at, opcode, space};
 use tapecard::{Device, sense_words};
 
 use super::count;
@@ -32,7 +32,7 @@ fn details(device: Device, opcode: u8, packet: &[u8]) -> Option<String> {
         opcode::LOAD_UNLOAD if packet[4] & 1 != 0 => Some("(load)".into()),
         opcode::LOAD_UNLOAD => Some("(unload)".into()),
         opcode::LOCATE => {
-            let target = u32::from_be_bytes(*packet.get(3..7)?.first_chunk()?);
+            let target = long_at(packet.get(3..7)?, 0);
             let unit = if floppy { "block" } else { "place" };
             Some(format!("{unit} {target}"))
         }
@@ -44,7 +44,7 @@ fn space_details(code: u8, asked: u32) -> String {
     let asked = signed(asked);
     let back = if asked < 0 { "back " } else { "" };
     let asked = asked.unsigned_abs().into();
-    match code & 7 {
+    match code % 8 {
         space::BLOCKS => format!("{back}{}", count(asked, "block")),
         space::FILEMARKS => format!("{back}{}", count(asked, "filemark")),
         space::END_OF_DATA => "to end of data".into(),
@@ -52,8 +52,14 @@ fn space_details(code: u8, asked: u32) -> String {
     }
 }
 
+/// Two's complement: from 800000h on a count of three bytes is below 0.
 fn signed(three_bytes: u32) -> i32 {
-    (three_bytes << 8) as i32 >> 8
+    let count = three_bytes as i32;
+    if count < 0x80_0000 {
+        count
+    } else {
+        count - 0x100_0000
+    }
 }
 
 #[cfg(test)]
@@ -70,6 +76,14 @@ mod tests {
         assert_eq!(
             packet(&[opcode::SPACE, 1, 0xFF, 0xFF, 0xFF, 0]),
             "SPACE back 1 filemark"
+        );
+        assert_eq!(
+            packet(&[opcode::SPACE, 0, 0x7F, 0xFF, 0xFF, 0]),
+            "SPACE 8388607 blocks"
+        );
+        assert_eq!(
+            packet(&[opcode::SPACE, 0, 0x80, 0, 0, 0]),
+            "SPACE back 8388608 blocks"
         );
         assert_eq!(
             packet(&[opcode::LOCATE, 0, 0, 0, 0, 1, 2, 0]),

@@ -15,7 +15,7 @@ use crate::words::hex;
 pub fn judge(args: &Args, packet: &[OsString]) -> Result<(), Failure> {
     let image = Path::new(args.operand(0, "the image")?);
     device::asked(args)?;
-    args.number("--room", 0..=LARGEST_ROOM as u32)?;
+    args.number("--room", 0..=LARGEST_ROOM)?;
     let out = args.path("--out");
     if args.has("--room") && packet.is_empty() {
         return Err(args.wrong("--room goes with a packet on the command line".into()));

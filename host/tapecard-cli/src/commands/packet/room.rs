@@ -8,9 +8,9 @@ use crate::tape::packets::blocks_asked;
 use crate::words;
 
 /// Room lent to a packet that returns less than a block.
-const SMALL_ROOM: u64 = 256;
+const SMALL_ROOM: u32 = 256;
 /// The largest room lent: more than the largest tape holds.
-pub const LARGEST_ROOM: u64 = 64 * 1024 * 1024;
+pub const LARGEST_ROOM: u32 = 64 * 1024 * 1024;
 
 /// The packet takes bytes from the host.
 pub fn takes_data(packet: &[u8]) -> bool {
@@ -27,18 +27,20 @@ pub fn stores(device: Device, packet: &[u8]) -> bool {
 }
 
 /// The room to lend where none is asked for.
-pub fn usual(device: Device, packet: &[u8], block_size: u64) -> u64 {
+pub fn usual(device: Device, packet: &[u8], block_size: u32) -> u32 {
     match packet.first() {
-        Some(&opcode::READ) => needed(device, packet, block_size).min(LARGEST_ROOM),
+        Some(&opcode::READ) => {
+            needed(device, packet, block_size).min(u64::from(LARGEST_ROOM)) as u32
+        }
         _ => SMALL_ROOM,
     }
 }
 
-/// Bytes that the packet moves at the most.
-fn needed(device: Device, packet: &[u8], block_size: u64) -> u64 {
+/// Bytes that the packet moves at the most. N*B can pass 32 bits.
+fn needed(device: Device, packet: &[u8], block_size: u32) -> u64 {
     match packet {
         [opcode::READ | opcode::WRITE, ..] => {
-            u64::from(blocks_asked(device, packet).unwrap_or(0)) * block_size
+            u64::from(blocks_asked(device, packet).unwrap_or(0)) * u64::from(block_size)
         }
         [_, _, _, _, length, ..] => (*length).into(),
         _ => 0,
@@ -46,7 +48,7 @@ fn needed(device: Device, packet: &[u8], block_size: u64) -> u64 {
 }
 
 /// What to do about a refusal; none where there is nothing to say.
-pub fn advice(refusal: Refusal, packet: &[u8], block_size: u64, data_left: u64) -> Option<String> {
+pub fn advice(refusal: Refusal, packet: &[u8], block_size: u32, data_left: u64) -> Option<String> {
     Some(match refusal.number {
         1 => "write twelve bytes".into(),
         2 => "take another copy of the image, or make one with tapecard new".into(),
@@ -58,11 +60,12 @@ pub fn advice(refusal: Refusal, packet: &[u8], block_size: u64, data_left: u64) 
 
 fn about_room(needed: u64, taken: bool, data_left: u64) -> String {
     let bytes = words::count(needed, "byte");
-    if taken && needed > LARGEST_ROOM {
+    let too_large = needed > u64::from(LARGEST_ROOM);
+    if taken && too_large {
         format!("ask for fewer blocks: no tape has more than {LARGEST_CAPACITY}")
     } else if taken {
         format!("give {bytes} with --data FILE; {data_left} are left there")
-    } else if needed > LARGEST_ROOM {
+    } else if too_large {
         format!(
             "ask for fewer blocks: no tape has more than {LARGEST_CAPACITY},\n            and no room of {bytes} is lent"
         )

@@ -25,7 +25,7 @@ pub struct PacketSession<'a> {
     image_file: HeldFile,
     image: Vec<u8>,
     device: PacketDevice,
-    block_size: u64,
+    block_size: u32,
     /// What WRITE and MODE SELECT take, and how much of it they took.
     data: Vec<u8>,
     taken: usize,
@@ -63,7 +63,7 @@ impl<'a> PacketSession<'a> {
             args,
             image_file,
             device,
-            block_size: drive::block_size_of(&mut image).unwrap_or(1024) as u64,
+            block_size: drive::block_size_of(&mut image).unwrap_or(1024) as u32,
             image,
             data: outgoing_data(args)?,
             taken: 0,
@@ -121,9 +121,9 @@ impl<'a> PacketSession<'a> {
         let lent = if room::takes_data(bytes) {
             &mut self.data[self.taken..]
         } else {
-            let asked = self.args.number("--room", 0..=LARGEST_ROOM as u32)?;
+            let asked = self.args.number("--room", 0..=LARGEST_ROOM)?;
             let usual = room::usual(self.device.kind(), bytes, self.block_size);
-            room.resize(asked.map_or(usual, u64::from) as usize, 0);
+            room.resize(asked.unwrap_or(usual) as usize, 0);
             &mut room[..]
         };
         let answer = self.device.send(&mut self.image, bytes, lent);
