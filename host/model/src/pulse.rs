@@ -816,7 +816,7 @@ impl Drive {
         if self.bug == Bug::ErrorReportSendsNothing && !self.is_moving() {
             return 0;
         }
-        u16::from(self.error) + 256 * u16::from(self.error_command)
+        u16::from_be_bytes([self.error_command, self.error])
     }
 
     // "config bits 1, 2, 5 zero, bit 6 set for type 2 and bit 7 for format 2, both only when referenced"; the rate in bits 3-4.
