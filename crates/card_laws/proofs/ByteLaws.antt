@@ -16,7 +16,7 @@ use Rattle.numbers.specs.Flags.{isSet, weightOf}
 use Rattle.packet_record.specs.PacketRecord.{attentionOf, attentionByte}
 use Rattle.pulse_record.specs.PulseRecord.{motionOf, motionByte, unsent}
 
--- ---- numbers, by the law over the width
+-- ---- numbers: the law over the width, as it computes at two bytes and at four
 
 pub two-back : (v : ℕ) → v < 2 ^ 16 → v / 256 % 256 * 256 + v % 256 ≡ v
 two-back v h = bytes-read-back 2 v [] h

@@ -13,9 +13,8 @@ use Rattle.opcodes.specs.declared.Command.the-variants.{Unknown, TestUnitReady,
 use Rattle.opcodes.specs.declared.Command.the-variants.{ModeSelect, ModeSense, LoadUnload, Locate, ReadPosition}
 use Rattle.transfer.specs.declared.Moved.{Moved}
 use Rattle.transfer.specs.Reading.{Reading, reads, readFrom}
-use Rattle.transfer.specs.Writing.{Writing, writes, writeFrom}
+use Rattle.transfer.specs.Writing.{writes, writeFrom}
 use Rattle.transfer.proofs.ReadLaws.{read-left}
-use Rattle.transfer.proofs.WriteLaws.{lay-left}
 use Rattle.packet_state.specs.declared.state.Ending.{Ending}
 use Rattle.packet_state.specs.declared.state.Ending.the-variants.{Good}
 use Rattle.packet_state.specs.declared.state.Outcome.{Outcome}
@@ -46,9 +45,6 @@ module _ (s : List ℕ) (h : Header) (end : ℕ) (st : State) (asked : ℕ) (buf
     read-went x r p q = rw (← run, q, p)
 
   module _ (run : writes new m ≡ writeFrom (h .size) (h .kinds) (h .blocks) end buf asked 0 (st .position) s) where
-    pub write-less : m .left ≤ asked
-    write-less = rw (ap (λ (r : Writing). r .moved .left) run) (lay-left _ _ _ asked 0 (st .position) s)
-
     pub write-went : (x : Ending) (r : Outcome) → x ≡ writeEnding (m .left) → r ≡ moves st asked (h .size) m x
         → done r new buf ≡ writeWork s h end st asked buf
     unfolding writeWork writeEnds

@@ -17,7 +17,6 @@ use floppy_parts::settings::is_good_tape_list;
 use floppy_parts::tape::Tape;
 use floppy_parts::tape::end_of;
 use floppy_parts::tape::listed_tape;
-use floppy_parts::tape::product_of;
 use image::header::Header;
 use numbers::flags::is_set;
 use opcodes::Command;
@@ -143,10 +142,10 @@ fn mode_sense(h: Header, state: State, tape: Tape, q: Request, buf: &mut [u8]) -
 // ---- 15h
 
 // 02, A1: "one that puts it below P sets P 0".
-fn place_under(end: u64, p: u32) -> u32
+fn place_under(end: u32, p: u32) -> u32
     ensures { λ r. ⌜ r ≡ placeUnder end p ⌝ }
 {
-    let beyond = end < p as u64;
+    let beyond = end < p;
     if beyond {
         return 0;
     }
@@ -154,20 +153,20 @@ fn place_under(end: u64, p: u32) -> u32
 }
 
 fn select_tape(h: Header, state: State, list: &[u8]) -> Outcome
-    requires { ⌜ 28 ≤ length (now list) ⌝ }
+    requires { ⌜ (h .capacity ≤ 65535) × (28 ≤ length (now list)) ⌝ }
     ensures { λ r. ⌜ r ≡ tapeWork h state (now (list .entry)) ⌝ }
 {
     let good = is_good_tape_list(h, list);
     if good {
-        let listed = product_of(listed_tape(list));
-        let place = place_under(listed, state.position);
+        let end_listed = end_of(listed_tape(list));
+        let place = place_under(end_listed, state.position);
         return end(stand_at(state, place), Ending::Good, 0, TAPE_LIST as u32);
     }
     end(state, Ending::Check(wrong_list()), 0, 0)
 }
 
 fn mode_select(h: Header, state: State, asked: u8, list: &[u8]) -> Outcome
-    requires { ⌜ asked ≤ length (now list) ⌝ }
+    requires { ⌜ (h .capacity ≤ 65535) × (asked ≤ length (now list)) ⌝ }
     ensures { λ r. ⌜ r ≡ selectWork h state asked (now (list .entry)) ⌝ }
 {
     let n = asked as usize;

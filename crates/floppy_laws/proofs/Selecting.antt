@@ -6,7 +6,7 @@ use mathlib.Core.Bool.{Bool, true, false, not, _&&_, true≢false}
 use mathlib.Core.List.{List}
 use mathlib.Core.Logic.{_↔_}
 use mathlib.Core.Path.{_≡_, refl, sym, _∙_}
-use borrow.Author.Tests.{eqb-true, eqb-false, eq-eqb, le-leb, leb-true, lt-ltb, le-ltb}
+use borrow.Author.Tests.{eqb-true, eqb-false, eq-eqb, le-leb, lt-ltb, le-ltb}
 use lib.Dec.{leb, eqb}
 use Rattle.numbers.specs.Choice.{if_then_else_}
 use Rattle.numbers.proofs.RuleLaws.{split}
@@ -33,6 +33,7 @@ use Rattle.floppy_parts.specs.Requests.{floppyRequest}
 use Rattle.floppy_parts.specs.Tape.{product, pageByte, listedTape, floppyOf}
 use Rattle.floppy_parts.specs.Settings.{goodTapeList, selectedTape, loadedTape, tapeAfter}
 use Rattle.floppy.specs.Packet.{floppyDevice}
+use Rattle.floppy_parts.proofs.SettingLaws.{good-within}
 use Rattle.floppy.specs.Work.{placeUnder, tapeWork, selectWork, workOf}
 use Rattle.floppy_laws.specs.Demands.{SelectExactly}
 use Rattle.floppy_laws.specs.Words.{TakesList}
@@ -48,8 +49,7 @@ module _ (h : Header) (list : List ℕ) where
       let b = eqb (pageByte list 1) tapePageLength in
       let p = split (a && b) (leb (product (listedTape list)) (h .capacity)) e in
       let q = split a b (p .0) in
-      let l = leb-true (product (listedTape list)) (h .capacity) (p .1) in
-      record { code = eqb-true _ _ (q .0); after = eqb-true _ _ (q .1); within = omega arith }
+      record { code = eqb-true _ _ (q .0); after = eqb-true _ _ (q .1); within = good-within h list e }
 
   of-takes : TakesList h list → goodTapeList h list ≡ true
   unfolding goodTapeList

@@ -1,8 +1,11 @@
--- The tape parameters stay but for MODE SELECT and LOAD.
+-- What a good list of tape parameters says, and that the parameters stay but for MODE SELECT and LOAD.
 -- Assumes nothing.
-use Prim.Native.Nat.{ℕ}
+use Prim.Native.Nat.{ℕ, _≤_}
+use mathlib.Core.Bool.{true, _&&_}
 use mathlib.Core.List.{List, [], _∷_}
 use mathlib.Core.Path.{_≡_, refl}
+use borrow.Author.Tests.{leb-true}
+use lib.Dec.{leb, eqb}
 use types.Run.{OneOf, miss}
 use denote.Enum.Declared.{tagOf}
 use Rattle.opcodes.proofs.Command
@@ -12,7 +15,16 @@ use Rattle.opcodes.specs.declared.Command.the-variants.{Unknown, TestUnitReady,
 use Rattle.opcodes.specs.declared.Command.the-variants.{ModeSelect, ModeSense, LoadUnload, Locate, ReadPosition}
 use Rattle.packet_parts.specs.declared.requests.Request.{Request}
 use Rattle.floppy_parts.specs.declared.tape.Tape.{Tape}
-use Rattle.floppy_parts.specs.Settings.{tapeAfter}
+use Rattle.numbers.proofs.RuleLaws.{split}
+use Rattle.floppy_parts.specs.Replies.{tapePage, tapePageLength}
+use Rattle.floppy_parts.specs.Settings.{goodTapeList, tapeAfter}
+use Rattle.floppy_parts.specs.Tape.{product, pageByte, listedTape}
+
+pub good-within : (h : Header) (list : List ℕ) → goodTapeList h list ≡ true → product (listedTape list) ≤ h .capacity
+unfolding goodTapeList
+good-within h list e =
+    let pages = eqb (pageByte list 0) tapePage && eqb (pageByte list 1) tapePageLength in
+    leb-true (product (listedTape list)) (h .capacity) (split pages (leb (product (listedTape list)) (h .capacity)) e .1)
 
 -- the tags of the commands that set nothing
 abbrev pub idle : List ℕ

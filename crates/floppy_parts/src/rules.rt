@@ -11,7 +11,7 @@ pub fn keeps_floppy_rules(h: Header, floppy: Floppy) -> bool
 {
     let shared = floppy.shared;
     let tape = floppy.tape;
-    let end = product_of(tape);
+    let product = product_of(tape);
     let ruly = keeps_record_rules(h.recorded, shared);
-    ruly & (end <= h.capacity as u64) & (shared.position as u64 <= end)
+    ruly & (product <= h.capacity as u64) & (shared.position as u64 <= product)
 }

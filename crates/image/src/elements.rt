@@ -20,13 +20,13 @@ const FILEMARK: u8 = 2;
 
 const RECORDED_FIELD: usize = 8;
 
-// Places in the image, of 64 bits: D + i*B can pass 32.
 fn kind_place(kinds: u32, i: u32) -> usize
     ensures { λ r. ⌜ r ≡ kinds + i ⌝ }
 {
     kinds as usize + i as usize
 }
 
+// D + i*B can pass 32 bits, so it is summed in the 64 of a place in the image.
 pub fn block_place(blocks: u32, i: u32, size: u16) -> usize
     requires { ⌜ (i ≤ 65535) × (size ≤ 1024) ⌝ }
     ensures { λ r. ⌜ r ≡ blocks + i * size ⌝ }

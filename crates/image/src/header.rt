@@ -25,7 +25,7 @@ pub enum Judged {
     Good(Header),
 }
 
-const HEADER_LENGTH: usize = 32;
+const HEADER_LENGTH: u16 = 32;
 
 const MOST_ELEMENTS: u32 = 65535;
 
@@ -62,10 +62,10 @@ fn fields(image: &[u8]) -> Header
 fn has_fixed_bytes(image: &[u8]) -> bool
     ensures { λ r. ⌜ r ≡ allHold (fixedBytes (now (image .entry))) ⌝ }
 {
-    if image.len() < HEADER_LENGTH {
+    if image.len() < HEADER_LENGTH as usize {
         return false;
     }
-    if count2(image, 0) as usize != HEADER_LENGTH {
+    if count2(image, 0) != HEADER_LENGTH {
         return false;
     }
     if count4(image, 24) != 0 {
@@ -104,15 +104,13 @@ fn keeps_places(h: Header, n: usize) -> bool
     requires { ⌜ (h .capacity ≤ 65535) × (h .size ≤ 1024) ⌝ }
     ensures { λ r. ⌜ r ≡ allHold (placeRules h n) ⌝ }
 {
-    let kinds = h.kinds as usize;
-    let blocks = h.blocks as usize;
-    if kinds < HEADER_LENGTH {
+    if h.kinds < HEADER_LENGTH as u32 {
         return false;
     }
-    if kinds + h.capacity as usize > blocks {
+    if h.kinds as usize + h.capacity as usize > h.blocks as usize {
         return false;
     }
-    if blocks + span(h.capacity, h.size) as usize > n {
+    if h.blocks as usize + span(h.capacity, h.size) as usize > n {
         return false;
     }
     true

@@ -1,5 +1,5 @@
 // 01: "Numbers in packets and answers are big-endian." 02, A9: here alone bytes are joined and split, by multiplication and addition and by
-// division. A number of two bytes is held in 16 bits, one of three or four in 32; each width is the one below it and a byte more.
+// division. A number of two bytes is held in 16 bits, one of three or four in 32; three and four are the width below and a byte more.
 ghost use mathlib.Core.Path.{_≡_};
 ghost use Prim.Native.Nat.{_+_, _*_, _/_, _%_, _^_, _<_, _≤_};
 ghost use lib.ListN.{length};

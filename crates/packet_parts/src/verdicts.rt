@@ -21,7 +21,7 @@ pub struct Asked {
     pub length: bool, // the length of its list is
     pub mounted: bool, // needs a loaded cartridge
     pub stores: bool, // stores on the cartridge
-    pub needed: usize, // bytes of room in the buffer
+    pub needed: usize, // bytes of room in the buffer: N*B can pass 32 bits
 }
 
 pub fn no_command() -> Asked

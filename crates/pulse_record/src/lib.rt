@@ -1,6 +1,6 @@
 // The pulse drive's record, cartridge description and answer in bytes.
 ghost use mathlib.Core.Path.{_≡_};
-ghost use Prim.Native.Nat.{_+_, _/_, _%_, _^_, _≤_};
+ghost use Prim.Native.Nat.{_%_, _^_, _≤_};
 ghost use lib.ListN.{length};
 ghost use Rattle.pulse_record.specs.PulseRecord.{motionOf, motionByte, unsent, waitingOf, waitedCode, waitedHeld, waitedValue};
 ghost use Rattle.pulse_record.specs.PulseRecord.{cartridgeOf, cartridgeByte, describedCartridge, describedPlace, marksOf, marksByte};

@@ -11,10 +11,8 @@ use Rattle.opcodes.specs.declared.Command.the-variants.{Unknown, TestUnitReady,
 use Rattle.opcodes.specs.declared.Command.the-variants.{ModeSelect, ModeSense, LoadUnload, Locate, ReadPosition}
 use Rattle.transfer.specs.declared.Moved.{Moved}
 use Rattle.transfer.specs.Reading.{Reading, reads, readFrom}
-use Rattle.transfer.specs.Writing.{Writing, writes, writeFrom, markFrom}
+use Rattle.transfer.specs.Writing.{writes, writeFrom, markFrom}
 use Rattle.transfer.proofs.ReadLaws.{read-run, read-left, few-moved}
-use Rattle.transfer.proofs.WriteLaws.{lay-run, lay-left}
-use Rattle.transfer.proofs.StopLaws.{few-laid}
 use Rattle.packet_state.specs.declared.state.Ending.{Ending}
 use Rattle.packet_state.specs.declared.state.Ending.the-variants.{Good}
 use Rattle.packet_state.specs.declared.state.Outcome.{Outcome}
@@ -51,12 +49,6 @@ module _ (s : List ℕ) (h : Header) (st : State) (asked : ℕ) (buf new : List 
 
 module _ (s : List ℕ) (h : Header) (st : State) (asked : ℕ) (buf new : List ℕ) (m : Moved)
     (run : writes new m ≡ writeFrom (h .size) (h .kinds) (h .blocks) (h .capacity) buf asked 0 (st .position) s) where
-  pub write-less : m .left ≤ asked
-  write-less = rw (ap (λ (r : Writing). r .moved .left) run) (lay-left _ _ _ asked 0 (st .position) s)
-
-  pub write-few : st .position ≤ h .capacity → asked - m .left ≤ h .capacity
-  write-few l = rw (ap (λ (r : Writing). r .moved .left) run) (few-laid _ _ _ (lay-run _ _ _ asked 0 (st .position) s) l)
-
   pub write-went : (x : Ending) (r : Outcome) (last : List ℕ) → last ≡ recordTo new (st .position) (m .place) → x ≡ writeEnding h asked m
       → r ≡ moves st asked (h .size) m x → done r last buf ≡ writeWork s h st asked buf
   unfolding writeWork writeEnds
@@ -64,12 +56,6 @@ module _ (s : List ℕ) (h : Header) (st : State) (asked : ℕ) (buf new : List 
 
 module _ (s : List ℕ) (h : Header) (st : State) (asked : ℕ) (buf new : List ℕ) (m : Moved)
     (run : writes new m ≡ markFrom (h .kinds) (h .capacity) asked (st .position) s) where
-  pub mark-less : m .left ≤ asked
-  mark-less = rw (ap (λ (r : Writing). r .moved .left) run) (lay-left _ _ _ asked 0 (st .position) s)
-
-  pub mark-few : st .position ≤ h .capacity → asked - m .left ≤ h .capacity
-  mark-few l = rw (ap (λ (r : Writing). r .moved .left) run) (few-laid _ _ _ (lay-run _ _ _ asked 0 (st .position) s) l)
-
   pub mark-went : (x : Ending) (r : Outcome) (last : List ℕ) → last ≡ recordTo new (st .position) (m .place) → x ≡ writeEnding h asked m
       → r ≡ moves st asked 0 m x → done r last buf ≡ markWork s h st asked buf
   unfolding markWork writeEnds

@@ -4,7 +4,7 @@ use Prim.Native.Nat.{ℕ, suc, _+_, _-_, _≤_, _<_}
 use native.Mathlib.Omega.{arith}
 use mathlib.Core.Bool.{false, false≢true}
 use mathlib.Core.List.{List}
-use mathlib.Core.Path.{_≡_, refl, sym}
+use mathlib.Core.Path.{_≡_, refl, sym, ap}
 use Rattle.image.specs.declared.elements.Kind.{Kind}
 use Rattle.image.specs.declared.elements.Kind.the-variants.{Data, Filemark, Unreadable}
 use Rattle.image.specs.Elements.{holdsData, kindAt}
@@ -12,9 +12,9 @@ use Rattle.transfer.specs.declared.Moved.{Moved}
 use Rattle.transfer.specs.declared.Stop.the-variants.{Full, AtFilemark, AtBadBlock, AtEnd}
 use Rattle.transfer.specs.Moving.{halts}
 use Rattle.transfer.specs.Reading.{Reading, stopAt}
-use Rattle.transfer.specs.Writing.{Writing}
+use Rattle.transfer.specs.Writing.{Writing, writes, layFrom}
 use Rattle.transfer.proofs.ReadLaws.{ReadRun}
-use Rattle.transfer.proofs.WriteLaws.{LayRun}
+use Rattle.transfer.proofs.WriteLaws.{LayRun, lay-run, lay-left}
 
 -- ---- READ
 
@@ -73,9 +73,9 @@ module _ (end : ℕ) where
   stands-within (all-laid z w b) = omega arith
   stands-within (at-end k l e w b) = omega arith
 
-  laid-few : {p n : ℕ} {m : Moved} → LayStops p n m → n - m .left ≤ end
-  laid-few (all-laid z w b) = omega arith
-  laid-few (at-end k l e w b) = omega arith
+  few-where-it-stops : {p n : ℕ} {m : Moved} → LayStops p n m → n - m .left ≤ end
+  few-where-it-stops (all-laid z w b) = omega arith
+  few-where-it-stops (at-end k l e w b) = omega arith
 
   module _ (lay : ℕ → ℕ → List ℕ → List ℕ) (size : ℕ) where
     pub lay-stops : {n off p : ℕ} {s : List ℕ} {X : Writing} → LayRun lay size end n off p s X → p ≤ end → LayStops p n (X .moved)
@@ -87,6 +87,13 @@ module _ (end : ℕ) where
     pub lay-within : {n off p : ℕ} {s : List ℕ} {X : Writing} → LayRun lay size end n off p s X → p ≤ end → X .moved .place ≤ end
     lay-within r l = stands-within (lay-stops r l)
 
-    -- so it lays no more elements than the end's place
-    pub few-laid : {n off p : ℕ} {s : List ℕ} {X : Writing} → LayRun lay size end n off p s X → p ≤ end → n - X .moved .left ≤ end
-    few-laid r l = laid-few (lay-stops r l)
+    -- what a run that came to this lays: no more than was asked for, and no more than the end's place
+    module _ (n p : ℕ) (s new : List ℕ) (m : Moved) (run : writes new m ≡ layFrom lay size end n 0 p s) where
+      left-of : m .left ≡ layFrom lay size end n 0 p s .moved .left
+      left-of = ap (λ (w : Writing). w .moved .left) run
+
+      pub laid-less : m .left ≤ n
+      laid-less = rw left-of (lay-left lay size end n 0 p s)
+
+      pub laid-few : p ≤ end → n - m .left ≤ end
+      laid-few l = rw left-of (few-where-it-stops (lay-stops (lay-run lay size end n 0 p s) l))

@@ -1,5 +1,8 @@
 -- `work::select_tape` meets its contract.
 -- Assumes nothing.
+use native.Mathlib.Omega.{arith}
+use mathlib.Core.Path.{sym, _∙_}
+use Rattle.floppy_parts.proofs.SettingLaws.{good-within}
 use Rattle.floppy.specs.Work.{tapeWork}
 use borrow.Author.Needs.{needs}
 use Rattle.floppy.proofs.work.select_tape.Statement.{statement}
@@ -11,8 +14,10 @@ is-good-tape-list-requires c κs = search needs
 listed-tape-requires : tie.Need-listed-tape-requires
 listed-tape-requires c κs = search needs
 
-product-of-requires : tie.Need-product-of-requires
-product-of-requires c κs = search needs
+end-of-requires : tie.Need-end-of-requires
+end-of-requires c κs =
+    let w = good-within _ _ (sym (c .before .before .is-good-tape-list .ensures) ∙ c .before .if1 .taken) in
+    rw (c .listed-tape .ensures) (omega (arith, w))
 
 place-under-requires : tie.Need-place-under-requires
 place-under-requires c κs = search needs
@@ -35,7 +40,7 @@ returns c =
       c .end .ensures,
       c .before .stand-at .ensures,
       c .before .before .place-under .ensures,
-      listed .product-of .ensures,
+      listed .end-of .ensures,
       listed .before .listed-tape .ensures,
       listed .before .before .if1 .taken,
       ← good .is-good-tape-list .ensures,
@@ -57,7 +62,7 @@ select-tape-spec =
     (tie.spec
     is-good-tape-list-requires
     listed-tape-requires
-    product-of-requires
+    end-of-requires
     place-under-requires
     stand-at-requires
     cast-end

@@ -60,7 +60,8 @@ mode-select-requires : tie.Need-mode-select-requires
 unfolding askedBy
 mode-select-requires c κs =
     let start = c .before .before .before .before .before .before in
-    needed-as _ ModeSelect _ _ _ _ (c .before .enum-told5 .given .1) (start .pre .1)
+    let g = sound _ _ (start .pre .0 .header) in
+    (omega arith, needed-as _ ModeSelect _ _ _ _ (c .before .enum-told5 .given .1) (start .pre .1))
 
 enum-told-6 : tie.Need-enum-told-6
 enum-told-6 c = search needs

@@ -3,7 +3,8 @@
 use native.Mathlib.Nat.{mul-le-mul-right}
 use native.Mathlib.Omega.{arith}
 use Rattle.image.proofs.HeaderLaws.{sound}
-use Rattle.floppy.proofs.WorkLaws.{write-less, write-went}
+use Rattle.transfer.proofs.StopLaws.{laid-less}
+use Rattle.floppy.proofs.WorkLaws.{write-went}
 use borrow.Author.Needs.{needs}
 use Rattle.floppy.proofs.work.write.Statement.{statement}
 use Rattle.floppy.proofs.work.write.Tie as tie
@@ -22,7 +23,7 @@ end-moved-requires : tie.Need-end-moved-requires
 end-moved-requires c κs =
     let start = c .before .before .before .before .before .before .before in
     let g = sound _ _ (start .pre .0) in
-    let l = write-less _ (start .args .h) _ (start .args .state) _ _ _ _ (c .before .before .before .write-blocks .ensures) in
+    let l = laid-less _ _ _ _ _ _ _ _ (c .before .before .before .write-blocks .ensures) in
     omega (arith, start .fits .asked .fits)
 
 same-length : tie.Need-same-length

@@ -7,14 +7,14 @@ use borrow.Author.Needs.{needs}
 use Rattle.image.proofs.header.has_fixed_bytes.Statement.{statement}
 use Rattle.image.proofs.header.has_fixed_bytes.Tie as tie
 
+cast-if1 : tie.Need-cast-if1
+cast-if1 c = search needs
+
 returns : tie.Need-returns
 returns c = sym (fail _ (λ g. omega arith))
 
 count2-requires : tie.Need-count2-requires
 count2-requires c κs = search needs
-
-cast-if2 : tie.Need-cast-if2
-cast-if2 c = search needs
 
 returns-2 : tie.Need-returns-2
 returns-2 c = sym (fail _ (λ g. omega arith))
@@ -38,9 +38,9 @@ pub has-fixed-bytes-spec : {M : Type 1} → statement M
 has-fixed-bytes-spec =
     tie.close
     (tie.spec
+    cast-if1
     returns
     count2-requires
-    cast-if2
     returns-2
     count4-requires
     returns-3

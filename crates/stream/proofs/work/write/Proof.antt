@@ -2,7 +2,8 @@
 -- Assumes nothing.
 use native.Mathlib.Omega.{arith}
 use Rattle.image.proofs.HeaderLaws.{sound}
-use Rattle.stream.proofs.WorkLaws.{write-less, write-few, write-went}
+use Rattle.transfer.proofs.StopLaws.{laid-less, laid-few}
+use Rattle.stream.proofs.WorkLaws.{write-went}
 use borrow.Author.Needs.{needs}
 use Rattle.stream.proofs.work.write.Statement.{statement}
 use Rattle.stream.proofs.work.write.Tie as tie
@@ -21,8 +22,8 @@ end-moved-requires c κs =
     let b = c .before .before .before .before .before .before .before in
     let start = b .before .before .before .before in
     let g = sound _ _ (start .pre .0) in
-    let l = write-less _ (start .args .h) (start .args .state) _ _ _ _ (b .write-blocks .ensures) in
-    let f = write-few _ (start .args .h) (start .args .state) _ _ _ _ (b .write-blocks .ensures) (omega arith) in
+    let l = laid-less _ _ _ _ _ _ _ _ (b .write-blocks .ensures) in
+    let f = laid-few _ _ _ _ _ _ _ _ (b .write-blocks .ensures) (omega arith) in
     omega arith
 
 same-length : tie.Need-same-length
