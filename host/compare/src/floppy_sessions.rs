@@ -1,9 +1,8 @@
 //! Sessions of the floppy tape device: full images, records with tape parameters, packets and lists, good ones mostly, and damage.
 
 use tapecard::bytes::opcode::*;
-use tapecard::bytes::{length, page};
+use tapecard::bytes::{length, long_at, page, put_long, put_word, word_at};
 
-use crate::bytes::{long_at, put_long, put_word, word_at};
 use crate::images::{AllowedEdit, Shape, damage_image};
 use crate::packet_sessions::{self, allocation, buffer_around, cut, put_speed_list};
 use crate::{Difference, FloppyBench, Random};
@@ -451,13 +450,13 @@ pub fn valid_record(random: &mut Random, image: &[u8]) -> [u8; 32] {
         _ => factors_within(random, capacity),
     };
     put_factors(&mut record, factors);
-    let product = product_in(&record);
+    let product = product_in(&record) as u32;
     let position = match random.below(4) {
         0 => 0,
         1 => product,
-        _ => random.below(product + 1),
+        _ => random.below(u64::from(product) + 1) as u32,
     };
-    put_long(&mut record, 0, position as u32);
+    put_long(&mut record, 0, position);
     record
 }
 

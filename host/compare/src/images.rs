@@ -1,7 +1,8 @@
 //! Images for sessions: good ones of every shape, and damage to their headers.
 
+use tapecard::bytes::{long_at, put_long, put_word, word_at};
+
 use crate::Random;
-use crate::bytes::{long_at, put_long, put_word, word_at};
 
 /// The measures of a good image.
 pub struct Shape {

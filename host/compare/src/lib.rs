@@ -9,7 +9,6 @@
 //! printed with its whole case, and the same seed finds it again. `tests/mutants.rs` plants known mistakes in the model and asks that
 //! each is found. `tests/c_example.rs` compiles, runs and checks the C example and the header.
 
-pub mod bytes;
 mod floppy_bench;
 pub mod floppy_sessions;
 mod guarded;

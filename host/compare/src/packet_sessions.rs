@@ -1,9 +1,8 @@
 //! Sessions of packets: images, records, packets and buffers, good ones mostly, and damage.
 
 use tapecard::bytes::opcode::*;
-use tapecard::bytes::{length, page};
+use tapecard::bytes::{count_at, length, long_at, page, put_count, put_long, put_word, word_at};
 
-use crate::bytes::{count_at, long_at, put_count, put_long, put_word, word_at};
 use crate::images::{AllowedEdit, Shape, damage_image};
 use crate::{Difference, PacketBench, Random};
 

@@ -4,9 +4,9 @@ use std::collections::{BTreeMap, BTreeSet, VecDeque};
 
 use model::Bug;
 use model::pulse::Branch;
+use tapecard::bytes::long_at;
 use tapecard::raw;
 
-use crate::bytes::long_at;
 use crate::{Difference, Guarded, Origin};
 
 /// What an answer holds before a call, to see that the whole of it is written.

@@ -3,8 +3,8 @@
 use std::collections::VecDeque;
 
 use tapecard::bytes::train::{COMMANDS, REPORTS, SKIPS};
+use tapecard::bytes::{put_word, word_at};
 
-use crate::bytes::{put_word, word_at};
 use crate::{Difference, PulseBench, PulseCall, Random};
 
 /// Makes calls, session after session, until `calls` are compared.

@@ -3,12 +3,11 @@
 
 use std::collections::BTreeSet;
 
-use compare::bytes::{long_at, put_long, put_word};
 use compare::floppy_sessions::{FAR_ABOVE, Factors, put_factors};
 use compare::{Difference, FloppyBench, Random, Shape, agree, say};
 use model::Bug;
 use model::packet::Ending;
-use tapecard::bytes::{length, opcode, page, triple};
+use tapecard::bytes::{length, long_at, opcode, page, put_long, put_word, triple};
 
 type Outcome = Result<(), Box<Difference>>;
 

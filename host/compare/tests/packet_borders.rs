@@ -2,11 +2,10 @@
 
 use std::collections::BTreeSet;
 
-use compare::bytes::{put_count, put_long, put_word};
 use compare::{Difference, PacketBench, Random, Shape, agree, say};
 use model::Bug;
 use model::packet::Ending;
-use tapecard::bytes::{opcode, page, space, triple};
+use tapecard::bytes::{opcode, page, put_count, put_long, put_word, space, triple};
 
 type Outcome = Result<(), Box<Difference>>;
 

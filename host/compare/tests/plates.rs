@@ -2,11 +2,10 @@
 
 use std::collections::VecDeque;
 
-use compare::bytes::{long_at, put_count, put_long, word_at};
 use compare::pulse_sessions;
 use compare::{FloppyBench, ImageBench, PacketBench, PulseBench, PulseCall, Random, Shape, agree};
 use model::Bug;
-use tapecard::bytes::{opcode, page, space};
+use tapecard::bytes::{long_at, opcode, page, put_count, put_long, space, word_at};
 
 /// "Image C 4, B 512, W 0, kinds 1 2 1, U 3, attention cleared".
 fn packet_bench(position: u32, warning: u16) -> PacketBench {

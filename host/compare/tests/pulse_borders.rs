@@ -1,9 +1,9 @@
 //! The pulse drive at its borders: a small world in full, every byte of the record, every cartridge description.
 
-use compare::bytes::put_word;
 use compare::{PulseBench, PulseCall, Random, agree, pulse_sessions, say};
 use model::Bug;
 use model::pulse::Branch;
+use tapecard::bytes::put_word;
 
 /// Every call that could matter in a small world.
 fn calls() -> Vec<PulseCall> {
