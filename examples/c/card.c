@@ -5,6 +5,7 @@
  *
  *     cc -std=c99 -Wall -Wextra -Werror -Iinclude examples/c/card.c target/staticlib/libtapecard.a -o card
  */
+#include <inttypes.h>
 #include <stdio.h>
 #include <string.h>
 
@@ -39,14 +40,14 @@ static void put_number(uint8_t *at, int length, uint32_t value)
 {
     while (length > 0) {
         length--;
-        at[length] = (uint8_t)(value & 0xFF);
-        value >>= 8;
+        at[length] = (uint8_t)(value % 256);
+        value = value / 256;
     }
 }
 
-static unsigned long number_at(const uint8_t *at, int length)
+static uint32_t number_at(const uint8_t *at, int length)
 {
-    unsigned long value = 0;
+    uint32_t value = 0;
     int i;
 
     for (i = 0; i < length; i++)
@@ -78,14 +79,14 @@ static void print_answer(const char *name, const uint8_t *record, const uint8_t 
         return;
     }
     printf("%s, ", answer[TAPECARD_ANSWER_STATUS_AT] == TAPECARD_STATUS_GOOD ? "GOOD" : "CHECK CONDITION");
-    printf("blocks %lu, ", number_at(answer + TAPECARD_ANSWER_BLOCKS_AT, 4));
-    printf("bytes %lu, ", number_at(answer + TAPECARD_ANSWER_BYTES_AT, 4));
-    printf("position %lu", number_at(record + TAPECARD_POSITION_AT, 4));
+    printf("blocks %" PRIu32 ", ", number_at(answer + TAPECARD_ANSWER_BLOCKS_AT, 4));
+    printf("bytes %" PRIu32 ", ", number_at(answer + TAPECARD_ANSWER_BYTES_AT, 4));
+    printf("position %" PRIu32, number_at(record + TAPECARD_POSITION_AT, 4));
     if (answer[TAPECARD_ANSWER_STATUS_AT] != TAPECARD_STATUS_GOOD)
         printf(", sense %X/%02X/%02X", (unsigned)record[TAPECARD_SENSE_KEY_AT], (unsigned)record[TAPECARD_SENSE_ASC_AT],
                (unsigned)record[TAPECARD_SENSE_ASCQ_AT]);
     if (record[TAPECARD_SENSE_FLAGS_AT] & TAPECARD_SENSE_VALID)
-        printf(", residue %lu", number_at(record + TAPECARD_INFORMATION_AT, 4));
+        printf(", residue %" PRIu32, number_at(record + TAPECARD_INFORMATION_AT, 4));
     printf("\n");
 }
 
@@ -109,13 +110,13 @@ static void set_speed(struct packet_drive *drive, uint16_t speed)
     static const uint8_t select[TAPECARD_PACKET_LENGTH] = {TAPECARD_MODE_SELECT, 0, 0, 0, TAPECARD_LIST_LENGTH};
     uint8_t list[TAPECARD_LIST_LENGTH] = {0};
 
-    printf("speed %lu\n", number_at(drive->record + TAPECARD_SPEED_AT, 2));
+    printf("speed %" PRIu32 "\n", number_at(drive->record + TAPECARD_SPEED_AT, 2));
     put_number(list + TAPECARD_LIST_PAGE_AT, 2, TAPECARD_LIST_PAGE);
     put_number(list + TAPECARD_LIST_SPEED_AT, 2, speed);
     tapecard_packet(drive->record, drive->image, sizeof drive->image, select, sizeof select, list, sizeof list,
                     drive->answer);
     print_answer("MODE SELECT", drive->record, drive->answer);
-    printf("speed %lu\n", number_at(drive->record + TAPECARD_SPEED_AT, 2));
+    printf("speed %" PRIu32 "\n", number_at(drive->record + TAPECARD_SPEED_AT, 2));
 }
 
 static void write_and_read_back(struct packet_drive *drive)
@@ -235,8 +236,8 @@ static void print_pulse_drive(const char *when, const uint8_t *record)
 {
     const uint8_t flags = record[TAPECARD_PULSE_FLAGS_AT];
 
-    printf("%s: error %u, place %lu, %s, new mark %s, referenced %s\n", when, (unsigned)record[TAPECARD_PULSE_ERROR_AT],
-           number_at(record + TAPECARD_PULSE_PLACE_AT, 2),
+    printf("%s: error %u, place %" PRIu32 ", %s, new mark %s, referenced %s\n", when,
+           (unsigned)record[TAPECARD_PULSE_ERROR_AT], number_at(record + TAPECARD_PULSE_PLACE_AT, 2),
            record[TAPECARD_PULSE_MOTION_AT] == TAPECARD_PULSE_STILL ? "ready" : "moving",
            yes_or_no(flags & TAPECARD_PULSE_NEW_MARK), yes_or_no(flags & TAPECARD_PULSE_REFERENCED));
 }
@@ -255,7 +256,7 @@ static void put_cartridge_in(uint8_t *record)
     tapecard_pulse_insert(record, cartridge, answer);
     print_pulse_drive("cartridge in", record);
     tapecard_pulse_wait(record, 4095, answer);
-    printf("loaded after %lu ticks\n", number_at(answer + TAPECARD_PULSE_ANSWER_TICKS_AT, 4));
+    printf("loaded after %" PRIu32 " ticks\n", number_at(answer + TAPECARD_PULSE_ANSWER_TICKS_AT, 4));
 }
 
 static void recover_pulse_drive(void)
