@@ -51,7 +51,8 @@ extern "C" {
 #define TAPECARD_IMAGE_MEDIUM_AT 21     /* 1 byte: medium type, any */
 #define TAPECARD_IMAGE_WARNING_AT 22    /* 2 bytes: early warning W, at most C; bytes 24-31 are zero */
 #define TAPECARD_KIND_DATA 1            /* an element that is a block */
-#define TAPECARD_KIND_FILEMARK 2        /* an element that is a filemark; every other kind is an unreadable block */
+#define TAPECARD_KIND_FILEMARK 2        /* an element that is a filemark */
+#define TAPECARD_KIND_MARKED 4          /* a block with a deleted address mark: read as data; every other kind is an unreadable block */
 
 /* ---- The packet drive: the stream device ---- */
 
@@ -81,6 +82,7 @@ extern "C" {
 #define TAPECARD_ANSWER_STATUS_AT 1     /* 1 byte: status */
 #define TAPECARD_ANSWER_BLOCKS_AT 4     /* 4 bytes: elements copied or stored, filemarks too */
 #define TAPECARD_ANSWER_BYTES_AT 8      /* 4 bytes: bytes filled or taken in the data buffer */
+#define TAPECARD_ANSWER_MARKED_AT 12    /* 4 bytes: of the blocks that a READ copied, how many were marked; 0 for all else */
 #define TAPECARD_STATUS_GOOD 0          /* ended well */
 #define TAPECARD_STATUS_CHECK_CONDITION 2 /* the record's sense tells more */
 
@@ -130,7 +132,7 @@ void tapecard_packet(uint8_t record[TAPECARD_PACKET_RECORD_LENGTH], uint8_t *ima
 #define TAPECARD_FLOPPY_MAX_SECTOR_AT 24   /* 1 byte: maximum floppy sector */
 #define TAPECARD_FLOPPY_MAX_CYLINDER_AT 25 /* 1 byte: maximum floppy cylinder */
 #define TAPECARD_FLOPPY_MAX_HEAD_AT 26     /* 1 byte: maximum floppy head; bytes 27-31 are zero */
-#define TAPECARD_FLOPPY_WDAM 0x80          /* flag: write deleted address marks; as the next two, only kept and told */
+#define TAPECARD_FLOPPY_WDAM 0x80          /* flag: write deleted address marks; as the next two, only kept and told: a WRITE marks none */
 #define TAPECARD_FLOPPY_RM 0x40            /* flag: reduced margin */
 #define TAPECARD_FLOPPY_FW 0x20            /* flag: format-write mode */
 

@@ -1,7 +1,7 @@
 /*
  * The drive card from C: a host that wants the automatic speed sets it, two blocks and a filemark go onto a cartridge in memory
- * and come back, a packet that was cut is refused, the floppy device rewrites a block in place, and a pulse drive is recovered by
- * 46 trains.
+ * and come back, a packet that was cut is refused, the floppy device rewrites a block in place and tells of a marked one, and a
+ * pulse drive is recovered by 46 trains.
  *
  *     cc -std=c99 -Wall -Wextra -Werror -Iinclude examples/c/card.c target/staticlib/libtapecard.a -o card
  */
@@ -80,6 +80,8 @@ static void print_answer(const char *name, const uint8_t *record, const uint8_t 
     }
     printf("%s, ", answer[TAPECARD_ANSWER_STATUS_AT] == TAPECARD_STATUS_GOOD ? "GOOD" : "CHECK CONDITION");
     printf("blocks %" PRIu32 ", ", number_at(answer + TAPECARD_ANSWER_BLOCKS_AT, 4));
+    if (number_at(answer + TAPECARD_ANSWER_MARKED_AT, 4) != 0)
+        printf("%" PRIu32 " marked, ", number_at(answer + TAPECARD_ANSWER_MARKED_AT, 4));
     printf("bytes %" PRIu32 ", ", number_at(answer + TAPECARD_ANSWER_BYTES_AT, 4));
     printf("position %" PRIu32, number_at(record + TAPECARD_POSITION_AT, 4));
     if (answer[TAPECARD_ANSWER_STATUS_AT] != TAPECARD_STATUS_GOOD)
@@ -203,6 +205,7 @@ static void use_floppy_device(void)
     print_answer("a blank cartridge", drive.record, drive.answer);
     put_number(drive.image + TAPECARD_IMAGE_RECORDED_AT, 4, CAPACITY);
     memset(drive.image + KINDS_AT, TAPECARD_KIND_DATA, CAPACITY);
+    drive.image[KINDS_AT] = TAPECARD_KIND_MARKED; /* as a floppy tape marks its header out */
     for (block = 0; block < CAPACITY; block++)
         sprintf((char *)drive.image + BLOCKS_AT + block * BLOCK_SIZE, "glyph %d", block);
     tapecard_floppy_fresh(drive.record, drive.image, sizeof drive.image, drive.answer);

@@ -25,8 +25,8 @@ use Rattle.tapecard.specs.PulseCalls.{pulseLeft, pulseTrain, pulseTick, pulseIn
 use Rattle.card_laws.specs.Promises.{Refused, PacketRefusedUntouched, FloppyRefusedUntouched, UntouchedIfRefused}
 use Rattle.card_laws.specs.Promises.{TrainRefusedUntouched, TickRefusedUntouched, InsertRefusedUntouched, RemoveRefusedUntouched}
 use Rattle.card_laws.specs.Promises.{WaitRefusedUntouched, CountsWhole, Settled}
-use Rattle.card_laws.proofs.PacketFollowing.{blocks-whole, bytes-whole}
-use Rattle.card_laws.proofs.FloppyFollowing.{floppy-blocks-whole, floppy-bytes-whole}
+use Rattle.card_laws.proofs.PacketFollowing.{blocks-whole, bytes-whole, marked-whole}
+use Rattle.card_laws.proofs.FloppyFollowing.{floppy-blocks-whole, floppy-bytes-whole, floppy-marked-whole}
 use Rattle.card_laws.proofs.PulseFollowing.{ticks-whole}
 
 -- ---- refused: untouched
@@ -91,8 +91,10 @@ counts-whole =
     record {
       blocks = blocks-whole;
       bytes = bytes-whole;
+      marked = marked-whole;
       floppy-blocks = floppy-blocks-whole;
       floppy-bytes = floppy-bytes-whole;
+      floppy-marked = floppy-marked-whole;
       ticks = ticks-whole;
     }
 

@@ -24,6 +24,7 @@ use Rattle.transfer.specs.declared.Stop.{Stop}
 use Rattle.transfer.specs.declared.Stop.the-variants.{Full, AtFilemark, AtBadBlock, AtEnd, AtBeginning}
 use Rattle.transfer.specs.Reading.{readFrom}
 use Rattle.transfer.specs.Writing.{blockOf, writeFrom}
+use Rattle.transfer.proofs.MarkedLaws.{marked-few}
 use Rattle.transfer.proofs.ReadLaws.{read-left}
 use Rattle.transfer.proofs.WriteLaws.{lay-left}
 use Rattle.packet_state.specs.declared.state.Ending.{Ending}
@@ -37,9 +38,9 @@ use Rattle.packet_parts.specs.Answers.{Left, refused, ends}
 use Rattle.packet_parts.specs.Replies.{replyEnds}
 use Rattle.packet_parts.specs.Requests.{loadBit, requestUnder}
 use Rattle.packet_parts.specs.Shell.{carriedOut}
-use Rattle.packet_work.specs.Moving.{moves}
+use Rattle.packet_work.specs.Moving.{moves, readMoves}
 use Rattle.packet_work.specs.Settings.{loadWork}
-use Rattle.packet_laws.specs.Words.{numberOf, blocksOf, bytesOf}
+use Rattle.packet_laws.specs.Words.{numberOf, blocksOf, bytesOf, markedOf}
 use Rattle.packet_laws.proofs.Endings.{senseOf, ends-is}
 use Rattle.packet_laws.proofs.Ways.{Way, cut, broken, unruly, short, ends-early, works, way}
 use Rattle.packet_record.specs.PacketRecord.{encodeAnswer}
@@ -110,9 +111,10 @@ record Whole (x : Outcome) : Type 0 where
   information : x .state .sense .information < 2 ^ 32
   blocks : x .answer .blocks < 2 ^ 32
   bytes : x .answer .bytes < 2 ^ 32
+  marked : x .answer .marked < 2 ^ 32
 
 ended : (st : State) (e : Ending) (blocks bytes : ℕ) → senseOf e .information < 2 ^ 32 → blocks < 2 ^ 32 → bytes < 2 ^ 32 → Whole (ends st e blocks bytes)
-ended st e blocks bytes i k l = rw ends-is (record { information = i; blocks = k; bytes = l })
+ended st e blocks bytes i k l = rw ends-is (record { information = i; blocks = k; bytes = l; marked = omega arith })
 
 -- nothing is moved
 plain : (st : State) (bytes : ℕ) → bytes < 2 ^ 32 → Whole (ends st Good 0 bytes)
@@ -145,6 +147,14 @@ module _ (s : List ℕ) (h : Header) (st : State) (t : Tape) (q : Request) (buf 
       let b = mul-le-mul few size in
       ended _ e _ _ (omega arith) (omega arith) (omega arith)
 
+  -- no more are marked than were copied
+  reading : (m : Moved) (e : Ending) → m .left ≤ q .length → senseOf e .information ≤ m .left
+      → Whole (readMoves s (h .kinds) st (q .length) (h .size) m e)
+  reading m e l i =
+      let w = run m e l i in
+      let k = marked-few s (h .kinds) (q .length - m .left) (st .position) in
+      record { information = w .information; blocks = w .blocks; bytes = w .bytes; marked = omega arith }
+
   work-whole : (c : Command) → Whole (record { answer = workOf c s h st t q buf .answer; state = workOf c s h st t q buf .state })
   unfolding workOf readWork readEnds writeWork writeEnds loadWork replyEnds
   work-whole Unknown = plain _ _ (omega arith)
@@ -153,7 +163,7 @@ module _ (s : List ℕ) (h : Header) (st : State) (t : Tape) (q : Request) (buf 
   work-whole RequestSense = plain _ _ (omega arith)
   work-whole Read =
       let m = readFrom s (h .size) (h .kinds) (h .blocks) (product t) (q .length) 0 (st .position) buf .moved in
-      run m (readEnding (m .stop) (m .left)) (read-left s (h .size) (h .kinds) (h .blocks) (product t) (q .length) 0 (st .position) buf)
+      reading m (readEnding (m .stop) (m .left)) (read-left s (h .size) (h .kinds) (h .blocks) (product t) (q .length) 0 (st .position) buf)
       (read-residue (m .stop) (m .left))
   work-whole Write =
       let m = writeFrom (h .size) (h .kinds) (h .blocks) (product t) buf (q .length) 0 (st .position) s .moved in
@@ -183,7 +193,7 @@ module _ (s : List ℕ) (f : Floppy) (packet buf : List ℕ) where
   whole-by (broken t g) b e = absurd (omega arith)
   whole-by (unruly t g r) b e = absurd (omega arith)
   whole-by (short p u l) b e = absurd (omega arith)
-  whole-by (ends-early p x u k) b e = record { information = omega (arith, k .1); blocks = omega arith; bytes = omega arith }
+  whole-by (ends-early p x u k) b e = record { information = omega (arith, k .1); blocks = omega arith; bytes = omega arith; marked = omega arith }
   whole-by (works p u l) b e =
       work-whole s (fieldsOf s) (f .shared) (f .tape) (floppyRequest packet) buf (full-sound s (p .good) .size-most) (b 4) (floppyRequest packet .command)
 
@@ -227,15 +237,16 @@ module _ (state image packet buf : List ℕ) where
   record Counts : Type 0 where
     blocks : blocksOf x < 2 ^ 32
     bytes : bytesOf x < 2 ^ 32
+    marked : markedOf x < 2 ^ 32
 
   counts : Bytes packet → Counts
   counts b = by (eqb (numberOf x) 0) refl
     where
       by : (a : Bool) → eqb (numberOf x) 0 ≡ a → Counts
-      by true e = let w = told-whole b (eqb-true _ _ e) in record { blocks = w .blocks; bytes = w .bytes }
+      by true e = let w = told-whole b (eqb-true _ _ e) in record { blocks = w .blocks; bytes = w .bytes; marked = w .marked }
       by false e =
           let r = refused-keeps image (decodeFloppy state) packet buf (eqb-false _ _ e) in
-          record { blocks = omega (arith, r .no-blocks); bytes = omega (arith, r .no-bytes) }
+          record { blocks = omega (arith, r .no-blocks); bytes = omega (arith, r .no-bytes); marked = omega (arith, r .no-marked) }
 
 mount-follows : (state image : List ℕ) (next : State) → next .position < 2 ^ 32 → next .speed < 2 ^ 16
     → decodeFloppy (floppyLeft state (mounted image (decodeFloppy state) next) .state) ≡ mounted image (decodeFloppy state) next .state
@@ -266,3 +277,8 @@ pub floppy-bytes-whole : (state image packet buf : List ℕ) → Bytes packet
     → countAt (floppyPacketCall state image packet buf .answer) 8 4 ≡ bytesOf (floppyStep image (decodeFloppy state) packet buf)
 unfolding floppyPacketCall floppyPacketLeft encodeAnswer
 floppy-bytes-whole state image packet buf b = four-back _ (counts state image packet buf b .bytes)
+
+pub floppy-marked-whole : (state image packet buf : List ℕ) → Bytes packet
+    → countAt (floppyPacketCall state image packet buf .answer) 12 4 ≡ markedOf (floppyStep image (decodeFloppy state) packet buf)
+unfolding floppyPacketCall floppyPacketLeft encodeAnswer
+floppy-marked-whole state image packet buf b = four-back _ (counts state image packet buf b .marked)

@@ -197,7 +197,7 @@ answer-bytes x e =
     (next number
     (next status
     (next zero
-    (next zero (count-all 4 (x .answer .blocks) (count-all 4 (x .answer .bytes) (next zero (next zero (next zero (next zero none))))))))))
+    (next zero (count-all 4 (x .answer .blocks) (count-all 4 (x .answer .bytes) (count-all 4 (x .answer .marked) none)))))))
 
 -- ---- the promises
 

@@ -19,7 +19,7 @@ use Rattle.stream_parts.specs.Requests.{requestOf}
 use Rattle.packet_state.specs.States.{freshState}
 use Rattle.packet_state.proofs.RecordLaws.{speed-most}
 use Rattle.stream.specs.Packet.{packetStep}
-use Rattle.packet_laws.specs.Words.{numberOf, blocksOf, bytesOf}
+use Rattle.packet_laws.specs.Words.{numberOf, blocksOf, bytesOf, markedOf}
 use Rattle.stream_laws.proofs.Leaving.{accepted-leaves}
 use Rattle.stream_laws.proofs.Refusals.{refused-keeps}
 use Rattle.packet_record.specs.PacketRecord.{decodeState, encodeState, encodeAnswer}
@@ -39,6 +39,7 @@ module _ (state image packet buf : List ℕ) (b : Bytes packet) where
     followed : decodeState (if accepted then encodeState (x .state) else state) ≡ x .state
     blocks : blocksOf x < 2 ^ 32
     bytes : bytesOf x < 2 ^ 32
+    marked : markedOf x < 2 ^ 32
 
   accepted-whole : numberOf x ≡ 0 → Whole true
   unfolding requestOf requestUnder
@@ -54,12 +55,18 @@ module _ (state image packet buf : List ℕ) (b : Bytes packet) where
         followed = state-kept-by-cycle _ (record { position = omega arith; speed = omega arith; information = omega (arith, a .information) });
         blocks = omega (arith, a .blocks);
         bytes = omega (arith, a .bytes, b 4);
+        marked = omega (arith, a .blocks, a .marked);
       }
 
   refused-whole : (numberOf x ≡ 0 → ⊥) → Whole false
   refused-whole n =
       let r = refused-keeps image (decodeState state) packet buf n in
-      record { followed = sym (r .state-kept); blocks = omega (arith, r .no-blocks); bytes = omega (arith, r .no-bytes) }
+      record {
+        followed = sym (r .state-kept);
+        blocks = omega (arith, r .no-blocks);
+        bytes = omega (arith, r .no-bytes);
+        marked = omega (arith, r .no-marked);
+      }
 
   whole : Whole (eqb (numberOf x) 0)
   whole = by (eqb (numberOf x) 0) refl
@@ -88,3 +95,8 @@ pub bytes-whole : (state image packet buf : List ℕ) → Bytes packet
     → countAt (packetCall state image packet buf .answer) 8 4 ≡ bytesOf (packetStep image (decodeState state) packet buf)
 unfolding packetCall packetLeft encodeAnswer
 bytes-whole state image packet buf b = four-back _ (whole state image packet buf b .bytes)
+
+pub marked-whole : (state image packet buf : List ℕ) → Bytes packet
+    → countAt (packetCall state image packet buf .answer) 12 4 ≡ markedOf (packetStep image (decodeState state) packet buf)
+unfolding packetCall packetLeft encodeAnswer
+marked-whole state image packet buf b = four-back _ (whole state image packet buf b .marked)

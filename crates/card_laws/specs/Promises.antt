@@ -17,7 +17,7 @@ use Rattle.pulse_laws.specs.Runs.{answers, pacedAnswers, recoveryTrains, silent
 use Rattle.card_laws.specs.Sessions.{answersOn, pacedAnswersOn, pacedOn, ticksOn, told, trainsOn}
 use Rattle.packet_state.specs.States.{freshState, changedState}
 use Rattle.stream.specs.Packet.{packetStep}
-use Rattle.packet_laws.specs.Words.{blocksOf, bytesOf}
+use Rattle.packet_laws.specs.Words.{blocksOf, bytesOf, markedOf}
 use Rattle.numbers.specs.Counts.{countAt}
 use Rattle.numbers.specs.Outcomes.{Settles}
 use Rattle.packet_record.specs.PacketRecord.{decodeState, encodeState}
@@ -199,17 +199,21 @@ CardRecoversAtAnyPace =
     → keepsRules (decodeDrive state) ≡ true → decodeDrive state .marks .inside ≡ true → silentTicks (decodeDrive state) ≤ k
     → BytesRegained pauses state (ticksOn k state) (pacedOn pauses (ticksOn k state) recoveryTrains)
 
--- and no count of an answer is cut: "4-7 blocks; 8-11 bytes" of a packet, "4-7 ticks" of a wait
+-- and no count of an answer is cut: "4-7 blocks; 8-11 bytes; 12-15 .. marked" of a packet, "4-7 ticks" of a wait
 
 pub record CountsWhole : Type 0 where
   pub blocks : (state image packet buf : List ℕ) → Bytes packet
       → countAt (packetCall state image packet buf .answer) 4 4 ≡ blocksOf (packetStep image (decodeState state) packet buf)
   pub bytes : (state image packet buf : List ℕ) → Bytes packet
       → countAt (packetCall state image packet buf .answer) 8 4 ≡ bytesOf (packetStep image (decodeState state) packet buf)
+  pub marked : (state image packet buf : List ℕ) → Bytes packet
+      → countAt (packetCall state image packet buf .answer) 12 4 ≡ markedOf (packetStep image (decodeState state) packet buf)
   pub floppy-blocks : (state image packet buf : List ℕ) → Bytes packet
       → countAt (floppyPacketCall state image packet buf .answer) 4 4 ≡ blocksOf (floppyStep image (decodeFloppy state) packet buf)
   pub floppy-bytes : (state image packet buf : List ℕ) → Bytes packet
       → countAt (floppyPacketCall state image packet buf .answer) 8 4 ≡ bytesOf (floppyStep image (decodeFloppy state) packet buf)
+  pub floppy-marked : (state image packet buf : List ℕ) → Bytes packet
+      → countAt (floppyPacketCall state image packet buf .answer) 12 4 ≡ markedOf (floppyStep image (decodeFloppy state) packet buf)
   pub ticks : (state : List ℕ) (limit : ℕ) → limit < 2 ^ 32 → countAt (pulseWait state limit .answer) 4 4 ≡ waitCall (decodeDrive state) limit .ticks
 
 -- ---- 01: "Prove that any two outcomes allowed by it coincide"

@@ -3,7 +3,7 @@
 use mathlib.Core.Path.{_≡_, refl, ap}
 use mathlib.Core.Bool.{Bool, true, false}
 use mathlib.Core.List.{List, [], _∷_, _++_}
-use Prim.Native.Nat.{ℕ, _≤_}
+use Prim.Native.Nat.{ℕ, _+_, _-_, _≤_}
 use types.Run.{OneOf, miss}
 use denote.Enum.Declared.{tagOf}
 use Rattle.opcodes.proofs.Command
@@ -14,7 +14,7 @@ use Rattle.opcodes.specs.declared.Command.the-variants.{ModeSelect, ModeSense, 
 use Rattle.transfer.specs.declared.Moved.{Moved}
 use Rattle.transfer.specs.Reading.{Reading, reads, readFrom}
 use Rattle.transfer.specs.Writing.{writes, writeFrom}
-use Rattle.transfer.proofs.ReadLaws.{read-left}
+use Rattle.transfer.proofs.ReadLaws.{read-left, read-few as run-few}
 use Rattle.packet_state.specs.declared.state.Ending.{Ending}
 use Rattle.packet_state.specs.declared.state.Ending.the-variants.{Good}
 use Rattle.packet_state.specs.declared.state.Outcome.{Outcome}
@@ -24,7 +24,7 @@ use Rattle.packet_parts.specs.declared.requests.Request.{Request}
 use Rattle.packet_parts.specs.Answers.{done, ends}
 use Rattle.packet_parts.specs.Replies.{senseBytes, devicePage, modeHeader, devicePageBytes, replyEnds, repliedInto}
 use Rattle.packet_parts.specs.Requests.{pageCode, loadBit}
-use Rattle.packet_work.specs.Moving.{moves}
+use Rattle.packet_work.specs.Moving.{moves, readMoves}
 use Rattle.packet_work.specs.Settings.{loadWork}
 use Rattle.floppy_parts.specs.declared.tape.Tape.{Tape}
 use Rattle.floppy_parts.specs.Replies.{floppyInquiry, floppyMode, tapePage, tapeMode, modeBytes}
@@ -39,7 +39,10 @@ module _ (s : List ℕ) (h : Header) (end : ℕ) (st : State) (asked : ℕ) (buf
     pub read-less : m .left ≤ asked
     read-less = rw (ap (λ (r : Reading). r .moved .left) run) (read-left s (h .size) (h .kinds) (h .blocks) end asked 0 (st .position) buf)
 
-    pub read-went : (x : Ending) (r : Outcome) → x ≡ readEnding (m .stop) (m .left) → r ≡ moves st asked (h .size) m x
+    pub read-few : st .position ≤ end → st .position + (asked - m .left) ≤ end
+    read-few l = rw (ap (λ (r : Reading). r .moved .left) run) (run-few s (h .size) (h .kinds) (h .blocks) end asked 0 (st .position) buf l)
+
+    pub read-went : (x : Ending) (r : Outcome) → x ≡ readEnding (m .stop) (m .left) → r ≡ readMoves s (h .kinds) st asked (h .size) m x
         → done r s new ≡ readWork s h end st asked buf
     unfolding readWork readEnds
     read-went x r p q = rw (← run, q, p)

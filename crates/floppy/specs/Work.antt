@@ -25,7 +25,7 @@ use Rattle.packet_parts.specs.declared.requests.Request.{Request}
 use Rattle.packet_parts.specs.Answers.{Left, done, ends}
 use Rattle.packet_parts.specs.Replies.{senseBytes, fullList}
 use Rattle.packet_parts.specs.Requests.{loadBit}
-use Rattle.packet_work.specs.Moving.{moves}
+use Rattle.packet_work.specs.Moving.{moves, readMoves}
 use Rattle.packet_work.specs.Replies.{replyWork}
 use Rattle.packet_work.specs.Settings.{speedWork, loadWork}
 use Rattle.floppy_parts.specs.declared.tape.Tape.{Tape}
@@ -52,13 +52,13 @@ readEnding AtBadBlock left = Check (unreadableBlock (left - 1))
 readEnding AtEnd left = Check (endOfData false left)
 readEnding AtBeginning left = Good
 
-unfoldable pub readEnds : State → ℕ → ℕ → List ℕ → Reading → Left State
-readEnds st asked size s r = done (moves st asked size (r .moved) (readEnding (r .moved .stop) (r .moved .left))) s (r .buf)
+unfoldable pub readEnds : Header → State → ℕ → List ℕ → Reading → Left State
+readEnds h st asked s r = done (readMoves s (h .kinds) st asked (h .size) (r .moved) (readEnding (r .moved .stop) (r .moved .left))) s (r .buf)
 
 -- up to the product, `end`
 unfoldable pub readWork : List ℕ → Header → ℕ → State → ℕ → List ℕ → Left State
 readWork s h end st asked buf =
-    readEnds st asked (h .size) s (readFrom s (h .size) (h .kinds) (h .blocks) end asked 0 (st .position) buf)
+    readEnds h st asked s (readFrom s (h .size) (h .kinds) (h .blocks) end asked 0 (st .position) buf)
 
 -- ---- 0Ah WRITE
 
@@ -66,7 +66,7 @@ readWork s h end st asked buf =
 unfoldable pub writeEnding : ℕ → Ending
 writeEnding left = if 1 ≤ᵇ left then Check (volumeOverflow left) else Good
 
--- "a write leaves U": bytes and kind 1 stored, no header byte
+-- "a write leaves U": bytes and kind 1 stored, no header byte; A6: "WRITE still stores kind 1", whatever the tape parameter WDAM says
 unfoldable pub writeEnds : State → ℕ → ℕ → List ℕ → Writing → Left State
 writeEnds st asked size buf w = done (moves st asked size (w .moved) (writeEnding (w .moved .left))) (w .image) buf
 

@@ -36,6 +36,7 @@ use packet_state::state::Outcome;
 use packet_state::state::State;
 use packet_state::state::stand_at;
 use packet_work::moving::end_moved;
+use packet_work::moving::end_read;
 use packet_work::replies::device_mode;
 use packet_work::replies::inquiry;
 use packet_work::replies::request_sense;
@@ -82,7 +83,7 @@ fn read(image: &[u8], h: Header, end: u32, state: State, asked: u8, buf: &mut [u
     let moved = read_blocks(image, size, h.kinds, h.blocks, end, buf, n, p);
     let stop = moved.stop;
     let ending = read_ending(stop, moved.left);
-    end_moved(state, n, size, moved, ending)
+    end_read(image, h.kinds, state, n, size, moved, ending)
 }
 
 fn write_ending(left: u32) -> Ending

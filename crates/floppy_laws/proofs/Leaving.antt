@@ -41,7 +41,7 @@ use Rattle.packet_parts.specs.Answers.{Left, done, ends, endsBefore}
 use Rattle.packet_parts.specs.Replies.{senseBytes, devicePage, shortList, fullList, modeHeader, devicePageBytes, firstOf, replyEnds, repliedInto}
 use Rattle.packet_parts.specs.Requests.{pageCode, loadBit}
 use Rattle.packet_parts.specs.Shell.{carriedOut}
-use Rattle.packet_work.specs.Moving.{moves}
+use Rattle.packet_work.specs.Moving.{readMoves}
 use Rattle.packet_work.specs.Replies.{replyWork}
 use Rattle.packet_work.specs.Settings.{listSpeed, loadWork}
 use Rattle.packet_work.proofs.SettingLaws.{good-speed}
@@ -205,7 +205,7 @@ module _ (s : List ℕ) (f : Floppy) (q : Request) (buf : List ℕ) (full : isFu
       let place = read-place s (h .size) (h .kinds) (h .blocks) end n 0 p buf (r .place) in
       let e = readEnding (X .moved .stop) (X .moved .left) in
       let run = read-run s (h .size) (h .kinds) (h .blocks) end n 0 p buf in
-      stays Read (moves st n (h .size) (X .moved) e) t (X .buf)
+      stays Read (readMoves s (h .kinds) st n (h .size) (X .moved) e) t (X .buf)
       (ended _ t e _ _ (r .within) place (r .speed) (read-key (X .moved .stop) (X .moved .left)))
       (read-length s (h .size) (h .kinds) (h .blocks) end n 0 p buf (omega arith))
       (λ i m.

@@ -1,6 +1,7 @@
 pub mod Keeping
 pub mod Leaving
 pub mod Locating
+pub mod Marked
 pub mod PlateTable
 pub mod ReadingBack
 pub mod Refusals

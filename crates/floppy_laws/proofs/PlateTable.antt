@@ -1,4 +1,4 @@
--- The plates of 02, A1 and A2, computed.
+-- The plates of 02, A1, A2 and A6, computed.
 -- Assumes nothing.
 use native.Mathlib.Omega.{arith}
 use mathlib.Core.Path.{refl}
@@ -7,6 +7,7 @@ use Rattle.numbers.specs.RuleList.{allHold}
 use Rattle.image.specs.Elements.{kindOf, kindAt, blockAt, layBlock}
 use Rattle.image.specs.Header.{fieldsOf, keepsHeaderRules}
 use Rattle.opcodes.specs.Commands.{floppyCommand}
+use Rattle.transfer.specs.Marked.{markedFrom}
 use Rattle.transfer.specs.Reading.{stopAt, readFrom}
 use Rattle.transfer.specs.Writing.{layFrom}
 use Rattle.packet_state.specs.States.{keepsRecordRules}
@@ -24,7 +25,7 @@ use Rattle.floppy_parts.specs.Tape.{product, resetTape, listedTape}
 use Rattle.floppy_parts.specs.Settings.{goodTapeList, selectedTape, loadedTape, tapeAfter}
 use Rattle.floppy.specs.Packet.{mounted}
 use Rattle.floppy.specs.Work.{readEnding, readEnds, readWork, writeEnding, writeEnds, writeWork, placeUnder, tapeWork, selectWork, workOf}
-use Rattle.floppy_laws.specs.Demands.{PlatesPrint, SpeedPlates, WorkBegins}
+use Rattle.floppy_laws.specs.Demands.{PlatesPrint, SpeedPlates, MarkedPlates, WorkBegins}
 
 pub plates-print : PlatesPrint
 unfolding answersTo decided carriedOut verdictBy foundFirst askedBy floppyRequest requestUnder keepsRecordRules keepsFloppyRules floppyCommand
@@ -46,6 +47,12 @@ speed-plates =
       sends = (record { begins = record { not-refused = refl; works = refl }; mode-select = refl; whole = refl }, refl);
     }
 
+pub marked-plates : MarkedPlates
+unfolding answersTo decided carriedOut verdictBy foundFirst askedBy floppyRequest requestUnder keepsRecordRules keepsFloppyRules floppyCommand
+    isFull keepsHeaderRules fieldsOf allHold isIn kindOf kindAt blockAt layBlock stopAt readFrom markedFrom layFrom ends readEnding readEnds readWork
+    writeEnding writeEnds writeWork product resetTape listedTape workOf tapeAfter
+marked-plates = record { clear = refl; deleting = refl; set = refl }
+
 pub work-begins : WorkBegins
 unfolding answersTo decided carriedOut verdictBy foundFirst askedBy floppyRequest requestUnder keepsRecordRules keepsFloppyRules floppyCommand
     isFull keepsHeaderRules fieldsOf allHold isIn kindOf kindAt blockAt layBlock stopAt readFrom layFrom ends readEnding readEnds readWork
@@ -57,4 +64,5 @@ work-begins =
       write = (record { not-refused = refl; works = refl }, omega arith);
       taken = (record { not-refused = refl; works = refl }, record { code = refl; after = refl; within = omega arith });
       left = (record { not-refused = refl; works = refl }, λ t. omega (arith, t .within));
+      marked = (record { good = refl; before = omega arith; holds = refl; same = refl }, refl);
     }

@@ -1,4 +1,4 @@
--- A written block reads back the same until something is stored at its own place.
+-- A written block reads back the same until something is stored at its own place, and so does a marked one.
 -- Assumes nothing.
 use Prim.Native.Nat.{ℕ, suc, _+_, _*_, _-_, _≤_, _<_}
 use native.Mathlib.Omega.{arith}
@@ -11,11 +11,13 @@ use lib.Dec.{leb, ltb, eqb}
 use lib.ListN.{length}
 use Rattle.numbers.specs.Over.{part}
 use Rattle.numbers.proofs.Cases.{test}
+use Rattle.image.specs.declared.elements.Kind.{Kind}
+use Rattle.image.specs.declared.elements.Kind.the-variants.{Data, Marked}
 use Rattle.image.specs.declared.header.Header.{Header}
 use Rattle.image.specs.Elements.{holdsData, blockAt}
 use Rattle.image.specs.Header.{fieldsOf}
 use Rattle.image.specs.Sameness.{Outside}
-use Rattle.image.proofs.HeaderLaws.{fields-are, good-header, is-block}
+use Rattle.image.proofs.HeaderLaws.{fields-are, good-header, is-block-of}
 use Rattle.opcodes.specs.declared.Command.the-variants.{Read, Write}
 use Rattle.transfer.specs.Reading.{readFrom}
 use Rattle.transfer.proofs.BlockLaws.{moved-blocks}
@@ -33,8 +35,8 @@ use Rattle.floppy_parts.proofs.FullLaws.{full-image}
 use Rattle.floppy_parts.proofs.RuledLaws.{Ruled, ruled-of}
 use Rattle.floppy.specs.Packet.{floppyDevice, floppyStep}
 use Rattle.floppy.specs.Work.{readEnds, readWork, workOf}
-use Rattle.floppy_laws.specs.Words.{placeOf, endOf, IsData}
-use Rattle.floppy_laws.specs.History.{StoresAt, Later, at-once, asked, replaced}
+use Rattle.floppy_laws.specs.Words.{placeOf, endOf, IsData, IsDataAs}
+use Rattle.floppy_laws.specs.History.{StoresAt, Later, at-once, asked, replaced, ReadsBackAs}
 use Rattle.floppy_laws.specs.Demands.{ReadsBack, ReadGives, ReadMoves}
 use Rattle.floppy_laws.proofs.Leaving.{accepted-leaves}
 use Rattle.floppy_laws.proofs.Refusals.{refused-keeps}
@@ -43,11 +45,12 @@ use Rattle.floppy_laws.proofs.Working.{step-is, room-is}
 
 -- ---- one packet
 
-module _ (i : ℕ) (bytes : List ℕ) (s : List ℕ) (f : Floppy) (packet buf : List ℕ) (block : IsData s i bytes) (spared : StoresAt i s f packet buf → ⊥) where
+module _ (kind : Kind) (i : ℕ) (bytes : List ℕ) (s : List ℕ) (f : Floppy) (packet buf : List ℕ) (block : IsDataAs kind s i bytes)
+    (spared : StoresAt i s f packet buf → ⊥) where
   abbrev x : Left Floppy
   x = floppyStep s f packet buf
 
-  same-image : x .image ≡ s → IsData (x .image) i bytes
+  same-image : x .image ≡ s → IsDataAs kind (x .image) i bytes
   same-image e = rw e block
 
   -- a WRITE spares the places before and after its own
@@ -58,26 +61,27 @@ module _ (i : ℕ) (bytes : List ℕ) (s : List ℕ) (f : Floppy) (packet buf : 
       let l = leb-false (placeOf f + blocksOf x) i b in
       absurd (spared (record { a-write = c; from = ltb-false _ _ a; upto = omega arith }))))
 
-  accepted-block : numberOf x ≡ 0 → IsData (x .image) i bytes
+  accepted-block : numberOf x ≡ 0 → IsDataAs kind (x .image) i bytes
   accepted-block e =
       let w = accepted-leaves s f packet buf e in
       ⊎-elim (λ c.
-      let k = w .others i (block .before) (outside c) in
-      is-block _ (x .image) (fieldsOf s) i bytes (w .header) (rw (fields-are _ _ (w .header)) (block .before))
-      (ap holdsData (k .kind) ∙ block .holds) (k .bytes ∙ block .same))
+      let k = w .others i (block .0 .before) (outside c) in
+      is-block-of kind (ap holdsData (sym (block .1)) ∙ block .0 .holds) _ (x .image) (fieldsOf s) i bytes
+      (w .header) (rw (fields-are _ _ (w .header)) (block .0 .before)) (k .kind ∙ block .1) (k .bytes ∙ block .0 .same))
       (λ z. same-image z) (w .stored)
 
-  still-block : IsData (x .image) i bytes
+  still-block : IsDataAs kind (x .image) i bytes
   still-block =
       test (eqb (numberOf x) 0) (λ e. accepted-block (eqb-true _ _ e))
       (λ e. same-image (refused-keeps s f packet buf (eqb-false _ _ e) .image-kept))
 
 -- ---- a whole history
 
-later-block : (i : ℕ) (bytes : List ℕ) {s s' : List ℕ} {f f' : Floppy} → Later i s f s' f' → IsData s i bytes → IsData s' i bytes
-later-block i bytes at-once b = b
-later-block i bytes (asked packet buf l e) b = still-block i bytes _ _ packet buf (later-block i bytes l b) e
-later-block i bytes (replaced f'' l) b = later-block i bytes l b
+later-block : (kind : Kind) (i : ℕ) (bytes : List ℕ) {s s' : List ℕ} {f f' : Floppy} → Later i s f s' f'
+    → IsDataAs kind s i bytes → IsDataAs kind s' i bytes
+later-block kind i bytes at-once b = b
+later-block kind i bytes (asked packet buf l e) b = still-block kind i bytes _ _ packet buf (later-block kind i bytes l b) e
+later-block kind i bytes (replaced f'' l) b = later-block kind i bytes l b
 
 -- ---- what READ copies
 
@@ -112,11 +116,18 @@ pub read-moves : ReadMoves
 unfolding workOf tapeAfter
 read-moves s f packet buf bytes b c = rw (step-is s f packet buf b Read c) (moves-first s f (blocksAsked (floppyRequest packet)) buf bytes)
 
-pub reads-back : ReadsBack
-reads-back s f packet buf b c j n s' f' l =
-    let w = later-block (placeOf f + j) _ l (blocks-stored s f packet buf b c j n) in (
+reads-back-as : (kind : Kind) (i : ℕ) (bytes s : List ℕ) (f : Floppy) → IsDataAs kind s i bytes → ReadsBackAs kind i bytes s f
+reads-back-as kind i bytes s f block s' f' l =
+    let w = later-block kind i bytes l block in (
       w,
-      λ packet' buf' b' c' k m e.
-          let r = read-gives s' f' packet' buf' b' c' k m in
-          sym (r .same) ∙ ap (λ (i : ℕ). blockAt s' (fieldsOf s' .size) (fieldsOf s' .blocks) i) e ∙ w .same,
+      λ packet buf b c k m e.
+          let r = read-gives s' f' packet buf b c k m in
+          sym (r .same) ∙ ap (λ (i : ℕ). blockAt s' (fieldsOf s' .size) (fieldsOf s' .blocks) i) e ∙ w .0 .same,
     )
+
+pub reads-back : ReadsBack
+reads-back =
+    record {
+      written = λ s f packet buf b c j n. reads-back-as Data (placeOf f + j) _ _ _ (blocks-stored s f packet buf b c j n);
+      marked = reads-back-as Marked;
+    }

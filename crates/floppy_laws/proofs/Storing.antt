@@ -5,12 +5,12 @@ use native.Mathlib.Nat.{zero-add}
 use native.Mathlib.Omega.{arith}
 use mathlib.Core.Bool.{true}
 use mathlib.Core.List.{List}
-use mathlib.Core.Path.{_≡_, ap}
+use mathlib.Core.Path.{_≡_, refl}
 use lib.ListN.{length}
 use Rattle.numbers.specs.Over.{part}
-use Rattle.image.specs.Elements.{holdsData}
+use Rattle.image.specs.declared.elements.Kind.the-variants.{Data}
 use Rattle.image.specs.Header.{fieldsOf}
-use Rattle.image.proofs.HeaderLaws.{fields-are, good-header, is-block}
+use Rattle.image.proofs.HeaderLaws.{fields-are, good-header, is-block-of}
 use Rattle.opcodes.specs.declared.Command.the-variants.{Write}
 use Rattle.transfer.specs.Writing.{blockOf, writeFrom}
 use Rattle.transfer.proofs.LaidLaws.{blocks-laid, blocks-read-back}
@@ -27,13 +27,13 @@ use Rattle.floppy_parts.proofs.FullLaws.{full-image}
 use Rattle.floppy_parts.proofs.RuledLaws.{Ruled, ruled-of}
 use Rattle.floppy.specs.Packet.{floppyDevice}
 use Rattle.floppy.specs.Work.{writeEnds, writeWork, workOf}
-use Rattle.floppy_laws.specs.Words.{placeOf, endOf, IsData}
+use Rattle.floppy_laws.specs.Words.{placeOf, endOf, IsDataAs}
 use Rattle.floppy_laws.specs.Demands.{BlocksStored}
 use Rattle.floppy_laws.proofs.Working.{step-is, room-is}
 
 written : (s : List ℕ) (f : Floppy) (n : ℕ) (buf : List ℕ) → isFull s ≡ true → Ruled (fieldsOf s) f → n * fieldsOf s .size ≤ length buf
     → (j : ℕ) → j < blocksOf (writeWork s (fieldsOf s) (endOf f) (f .shared) n buf)
-    → IsData (writeWork s (fieldsOf s) (endOf f) (f .shared) n buf .image) (placeOf f + j) (part buf (j * fieldsOf s .size) (fieldsOf s .size))
+    → IsDataAs Data (writeWork s (fieldsOf s) (endOf f) (f .shared) n buf .image) (placeOf f + j) (part buf (j * fieldsOf s .size) (fieldsOf s .size))
 unfolding writeWork writeEnds
 written s f n buf full r room j b =
     let h = fieldsOf s in
@@ -46,7 +46,7 @@ written s f n buf full r room j b =
     let moved : j < n - X .moved .left = rw ends-is at b in
     let w = blocks-laid h (endOf f) (r .within) buf run good (omega arith) (omega arith) in
     let z = blocks-read-back h (endOf f) (r .within) buf run good (omega arith) j (omega arith) in
-    is-block _ (X .image) h (p + j) _ (w .header) (rw (fields-are _ _ (w .header)) (omega (arith, w .reached))) (ap holdsData (z .0)) (rw zero-add at (z .1))
+    is-block-of Data refl _ (X .image) h (p + j) _ (w .header) (rw (fields-are _ _ (w .header)) (omega (arith, w .reached))) (z .0) (rw zero-add at (z .1))
 
 pub blocks-stored : BlocksStored
 unfolding workOf askedBy tapeAfter

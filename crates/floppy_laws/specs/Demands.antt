@@ -5,10 +5,11 @@ use mathlib.Core.Bool.{true, false}
 use mathlib.Core.List.{List}
 use mathlib.Core.Logic.{_↔_}
 use mathlib.Core.Path.{_≡_}
-use lib.ListN.{getD}
+use lib.ListN.{getD, replicate}
 use Rattle.numbers.specs.Member.{isIn}
 use Rattle.numbers.specs.Outcomes.{Settles}
 use Rattle.numbers.specs.Over.{part}
+use Rattle.image.specs.declared.elements.Kind.the-variants.{Data, Marked}
 use Rattle.image.specs.Header.{fieldsOf, headerLength}
 use Rattle.opcodes.specs.declared.Command.the-variants.{Read, Write, ModeSelect, LoadUnload, Locate}
 use Rattle.packet_state.specs.declared.state.Attention.the-variants.{Nothing}
@@ -16,9 +17,9 @@ use Rattle.packet_state.specs.States.{speeds, withSpeed, withSense}
 use Rattle.packet_state.specs.Senses.{invalidField, wrongList}
 use Rattle.packet_parts.specs.Answers.{goodStatus}
 use Rattle.packet_parts.specs.Requests.{loadBit}
-use Rattle.packet_laws.specs.Plates.{standing, sent, SpeedPlates as SpeedPlatesOf}
+use Rattle.packet_laws.specs.Plates.{standing, sent, SpeedPlates as SpeedPlatesOf, markedImage, markedPlates, allMarkedAgree}
 use Rattle.packet_laws.specs.Promises.{CutPacket as CutPacketOf, RefusedKeeps as RefusedKeepsOf, NumberExactly as NumberExactlyOf}
-use Rattle.packet_laws.specs.Promises.{BeginsExactly as BeginsExactlyOf, SpeedFollows as SpeedFollowsOf}
+use Rattle.packet_laws.specs.Promises.{BeginsExactly as BeginsExactlyOf, SpeedFollows as SpeedFollowsOf, MarkedCounted as MarkedCountedOf}
 use Rattle.packet_laws.specs.Words.{numberOf, statusOf, blocksOf, bytesOf, residueOf}
 use Rattle.floppy_parts.specs.declared.tape.Floppy.{Floppy}
 use Rattle.floppy_parts.specs.declared.tape.FloppyOutcome.{FloppyOutcome}
@@ -28,9 +29,9 @@ use Rattle.floppy_parts.specs.Requests.{floppyRequest, blocksAsked, blockNumber
 use Rattle.floppy_parts.specs.Rules.{keepsFloppyRules}
 use Rattle.floppy_parts.specs.Tape.{product, resetTape, listedTape, floppyOf}
 use Rattle.floppy.specs.Packet.{FreshPromise, ChangedPromise, PacketPromise, floppyDevice, floppyStep, freshFloppy, changedFloppy}
-use Rattle.floppy_laws.specs.History.{Later}
-use Rattle.floppy_laws.specs.Plates.{image, placed, listOf, select, allAgree, plates, BeginsAndMoves}
-use Rattle.floppy_laws.specs.Words.{placeOf, endOf, senseIn, movedTo, BeginsWork, TakesList, IsData, EveryReadGives, ReadEnds, WriteEnds}
+use Rattle.floppy_laws.specs.History.{ReadsBackAs}
+use Rattle.floppy_laws.specs.Plates.{image, placed, placedDeleting, listOf, select, allAgree, plates, BeginsAndMoves}
+use Rattle.floppy_laws.specs.Words.{placeOf, endOf, senseIn, movedTo, BeginsWork, TakesList, IsData, IsDataAs, ReadEnds, WriteEnds}
 use Rattle.floppy_laws.specs.Words.{StoppedAtBadBlock, Kept}
 
 -- What every packet device promises: "1: packet is not 12 bytes", whatever the image, the record and the buffer; nothing changes.
@@ -53,6 +54,10 @@ BeginsExactly = BeginsExactlyOf floppyDevice
 -- 02, A2: 1Ah gives the record's speed, 15h sets it exactly where its list is good, and no other packet changes it.
 abbrev pub SpeedFollows : Type 0
 SpeedFollows = SpeedFollowsOf floppyDevice
+
+-- 02, A6: a READ's answer says how many of the blocks that it copied have kind 4, every other answer 0.
+abbrev pub MarkedCounted : Type 0
+MarkedCounted = MarkedCountedOf floppyDevice
 
 -- What an accepted packet leaves is again accepted: U is still C, the product within C, and P within the product.
 abbrev pub StaysGood : Type 0
@@ -105,35 +110,36 @@ pub record RecordKept : Type 0 where
   pub write : (s : List ℕ) (f : Floppy) (packet buf : List ℕ) → BeginsWork s f packet buf → floppyRequest packet .command ≡ Write
       → floppyStep s f packet buf .state ≡ movedTo f (floppyStep s f packet buf)
 
--- Each block that a READ moves is a data block of the image, and stands whole in the buffer.
+-- 02, A6: "READ copies it as data": each block that a READ moves is a data block of the image, marked or not, and stands whole in the buffer.
 abbrev pub ReadGives : Type 0
 ReadGives =
     (s : List ℕ) (f : Floppy) (packet buf : List ℕ) → BeginsWork s f packet buf → floppyRequest packet .command ≡ Read
     → (k : ℕ) → k < blocksOf (floppyStep s f packet buf)
     → IsData s (placeOf f + k) (part (floppyStep s f packet buf .buf) (k * fieldsOf s .size) (fieldsOf s .size))
 
--- The same from the other side: a READ of one block or more that begins at a data block below the product moves it.
+-- The same from the other side: a READ of one block or more that begins at a data block below the product, marked or not, moves it.
 abbrev pub ReadMoves : Type 0
 ReadMoves =
     (s : List ℕ) (f : Floppy) (packet buf bytes : List ℕ) → BeginsWork s f packet buf → floppyRequest packet .command ≡ Read
     → IsData s (placeOf f) bytes → placeOf f < endOf f → 1 ≤ blocksAsked (floppyRequest packet)
     → 1 ≤ blocksOf (floppyStep s f packet buf)
 
--- Each block that a WRITE counts is data with the buffer's bytes, in the image that it leaves.
+-- 02, A6: "WRITE still stores kind 1.": each block that a WRITE counts is data, not marked, with the buffer's bytes, in the image that it leaves, whatever the
+-- tape parameters say.
 abbrev pub BlocksStored : Type 0
 BlocksStored =
     (s : List ℕ) (f : Floppy) (packet buf : List ℕ) → BeginsWork s f packet buf → floppyRequest packet .command ≡ Write
     → (j : ℕ) → j < blocksOf (floppyStep s f packet buf)
-    → IsData (floppyStep s f packet buf .image) (placeOf f + j) (part buf (j * fieldsOf s .size) (fieldsOf s .size))
+    → IsDataAs Data (floppyStep s f packet buf .image) (placeOf f + j) (part buf (j * fieldsOf s .size) (fieldsOf s .size))
 
--- A written block reads back the same until something is stored at its own place: nothing before it harms it here.
-abbrev pub ReadsBack : Type 0
-ReadsBack =
-    (s : List ℕ) (f : Floppy) (packet buf : List ℕ) → BeginsWork s f packet buf → floppyRequest packet .command ≡ Write
-    → (j : ℕ) → j < blocksOf (floppyStep s f packet buf)
-    → (s' : List ℕ) (f' : Floppy) → Later (placeOf f + j) (floppyStep s f packet buf .image) (floppyStep s f packet buf .state) s' f'
-    → IsData s' (placeOf f + j) (part buf (j * fieldsOf s .size) (fieldsOf s .size))
-    × EveryReadGives s' f' (placeOf f + j) (part buf (j * fieldsOf s .size) (fieldsOf s .size))
+-- A written block reads back the same until something is stored at its own place: nothing before it harms it here. 02, A6: a marked block of the image stays
+-- so too, mark and bytes.
+pub record ReadsBack : Type 0 where
+  pub written : (s : List ℕ) (f : Floppy) (packet buf : List ℕ) → BeginsWork s f packet buf → floppyRequest packet .command ≡ Write
+      → (j : ℕ) → j < blocksOf (floppyStep s f packet buf)
+      → ReadsBackAs Data (placeOf f + j) (part buf (j * fieldsOf s .size) (fieldsOf s .size))
+      (floppyStep s f packet buf .image) (floppyStep s f packet buf .state)
+  pub marked : (i : ℕ) (bytes s : List ℕ) (f : Floppy) → IsDataAs Marked s i bytes → ReadsBackAs Marked i bytes s f
 
 -- "a write leaves U": no packet moves U or any other byte of the header.
 pub record RecordedKept : Type 0 where
@@ -201,9 +207,16 @@ SpeedPlates =
     SpeedPlatesOf floppyDevice (image 0) (freshFloppy (image 0) (floppyOf (withSpeed (standing 3) 0) (resetTape 4)) .state)
     (λ f. changedFloppy (image 0) f .state)
 
--- What is asked above can be so: a READ and a WRITE that begin and move a block, a list of 28 bytes that is taken and one that is not.
+-- 02, A6: READ and WRITE over marked blocks, and "WRITE still stores kind 1." whether WDAM is clear or set.
+pub record MarkedPlates : Type 0 where
+  pub clear : allMarkedAgree floppyDevice placed markedPlates ≡ true
+  pub deleting : placedDeleting 0 .tape .reported .deleted ≡ true
+  pub set : allMarkedAgree floppyDevice placedDeleting markedPlates ≡ true
+
+-- What is asked above can be so: a READ and a WRITE that begin and move a block, a list of 28 bytes that is taken and one that is not, a marked block.
 pub record WorkBegins : Type 0 where
   pub read : BeginsAndMoves (placed 0) (sent 0x08 1 0 0 3 0 0)
   pub write : BeginsAndMoves (placed 3) (sent 0x0a 1 0 0 2 0 0)
   pub taken : BeginsWork (image 0) (placed 3) select (listOf 1 2 1) × TakesList (fieldsOf (image 0)) (listOf 1 2 1)
   pub left : BeginsWork (image 0) (placed 3) select (listOf 1 5 1) × (TakesList (fieldsOf (image 0)) (listOf 1 5 1) → ⊥)
+  pub marked : IsDataAs Marked markedImage 0 (replicate 512 7)

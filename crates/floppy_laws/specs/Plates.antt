@@ -1,9 +1,9 @@
--- 02, A1 worked out by hand: plates of the floppy tape device, one table.
+-- 02, A1 worked out by hand: plates of the floppy tape device, one table; and the records for those of A6.
 -- Assumes nothing.
 use Prim.Native.Nat.{ℕ, _≤_}
 use mathlib.Core.Bool.{Bool, true, _&&_}
 use mathlib.Core.List.{List, [], _∷_, _++_}
-use lib.ListN.{length, replicate, take}
+use lib.ListN.{length, replicate, take, set}
 use Rattle.numbers.specs.Choice.{_≡ᵇ_}
 use Rattle.numbers.specs.Counts.{countBytes}
 use Rattle.image.specs.Header.{fieldsOf}
@@ -12,7 +12,7 @@ use Rattle.packet_parts.specs.Replies.{senseBytes}
 use Rattle.packet_laws.specs.Plates.{plateImage, standing, sent, senseOf, same}
 use Rattle.packet_laws.specs.Words.{numberOf, blocksOf, bytesOf}
 use Rattle.floppy_parts.specs.declared.tape.Floppy.{Floppy}
-use Rattle.floppy_parts.specs.Tape.{resetTape, floppyOf}
+use Rattle.floppy_parts.specs.Tape.{resetTape, listedTape, floppyOf}
 use Rattle.floppy.specs.Packet.{floppyStep}
 use Rattle.floppy_laws.specs.Words.{placeOf, endOf, senseIn, BeginsWork}
 
@@ -35,6 +35,10 @@ pageOf bseg segtrk trks = 0x2b ∷ 0x0e ∷ 0 ∷ 0 ∷ 0 ∷ bseg ∷ (countByt
 -- "its list has 28 bytes"
 abbrev pub listOf : ℕ → ℕ → ℕ → List ℕ
 listOf bseg segtrk trks = replicate 12 0 ++ pageOf bseg segtrk trks
+
+-- at place p, after such a list with WDAM, bit 7 of byte 15 of the page: 02, A6 is asked with it clear and set
+abbrev pub placedDeleting : ℕ → Floppy
+placedDeleting p = floppyOf (standing p) (listedTape (set (listOf 1 4 1) 27 0x80))
 
 -- MODE SELECT of a list of 28 bytes, and the record after one of two blocks was sent at 3
 abbrev pub select : List ℕ

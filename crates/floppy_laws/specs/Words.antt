@@ -6,10 +6,11 @@ use mathlib.Core.List.{List}
 use mathlib.Core.Path.{_≡_}
 use lib.ListN.{length, getD}
 use Rattle.numbers.specs.Over.{part}
+use Rattle.image.specs.declared.elements.Kind.{Kind}
 use Rattle.image.specs.declared.header.Header.{Header}
 use Rattle.image.specs.Elements.{kindAt, holdsData}
 use Rattle.image.specs.Header.{fieldsOf}
-use Rattle.image.specs.Sameness.{IsBlock, SameElement, Outside}
+use Rattle.image.specs.Sameness.{IsBlock, IsBlockOf, SameElement, Outside}
 use Rattle.opcodes.specs.declared.Command.the-variants.{Read, Write}
 use Rattle.packet_state.specs.declared.state.Sense.{Sense}
 use Rattle.packet_state.specs.Senses.{noSense, unreadableBlock, endOfData, volumeOverflow}
@@ -55,6 +56,10 @@ pub record TakesList (h : Header) (list : List ℕ) : Type 0 where
 -- element i holds data: these bytes
 abbrev pub IsData : List ℕ → ℕ → List ℕ → Type 0
 IsData s i bytes = IsBlock (fieldsOf s .capacity) s i bytes
+
+-- the same, of this one of the kinds that hold data
+abbrev pub IsDataAs : Kind → List ℕ → ℕ → List ℕ → Type 0
+IsDataAs kind s i bytes = IsBlockOf kind (fieldsOf s .capacity) s i bytes
 
 -- element i is below the product and holds no data: "kind 2 counts as unreadable"
 abbrev pub Unreadable : List ℕ → Floppy → ℕ → Type 0

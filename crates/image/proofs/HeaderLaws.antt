@@ -1,6 +1,6 @@
 -- The header: the ways of `header_of`, what a good header keeps, and that the header goes by its bytes.
 -- Assumes nothing.
-use mathlib.Core.Path.{_≡_, refl, sym, _∙_}
+use mathlib.Core.Path.{_≡_, refl, sym, ap, _∙_}
 use mathlib.Core.Bool.{Bool, true, false, cond, _&&_, _||_, and-false, and-true, false≢true}
 use borrow.Author.Tests.{le-leb, eqb-true}
 use lib.Dec.{eqb}
@@ -15,10 +15,11 @@ use Rattle.numbers.specs.RuleList.{allHold, Each}
 use Rattle.numbers.proofs.Cases.{or-by}
 use Rattle.numbers.proofs.RuleLaws.{split, each-of, pass}
 use Rattle.numbers.proofs.CountLaws.{count-by-bytes}
+use Rattle.image.specs.declared.elements.Kind.{Kind}
 use Rattle.image.specs.declared.header.Header.{Header}
 use Rattle.image.specs.declared.header.Judged.the-variants.{Good, Broken}
 use Rattle.image.specs.Elements.{kindAt, blockAt, holdsData}
-use Rattle.image.specs.Sameness.{IsBlock}
+use Rattle.image.specs.Sameness.{IsBlock, IsBlockOf}
 use Rattle.image.specs.Header.{blockSizes, fieldsOf, fixedBytes, fieldRanges, placeRules, keepsHeaderRules, headerOf}
 
 -- ---- the ways of `header_of`
@@ -154,6 +155,11 @@ pub is-block : (end : ℕ) (s : List ℕ) (h : Header) (i : ℕ) (bytes : List �
 is-block end s h i bytes g l k b =
     let f = fields-are s h g in
     record { good = keeps-of s h g; before = l; holds = rw f k; same = rw f b }
+
+-- of a kind that holds data
+pub is-block-of : (kind : Kind) → holdsData kind ≡ true → (end : ℕ) (s : List ℕ) (h : Header) (i : ℕ) (bytes : List ℕ) → headerOf s ≡ Good h → i < end
+    → kindAt s (h .kinds) i ≡ kind → blockAt s (h .size) (h .blocks) i ≡ bytes → IsBlockOf kind end s i bytes
+is-block-of kind d end s h i bytes g l k b = (is-block end s h i bytes g l (ap holdsData k ∙ d) b, rw (fields-are s h g) k)
 
 pub good-by : (s : List ℕ) (h : Header) → fieldsOf s ≡ h → Each (fixedBytes s) → Each (fieldRanges h) → Each (placeRules h (length s)) → headerOf s ≡ Good h
 unfolding headerOf keepsHeaderRules

@@ -5,6 +5,7 @@ use mathlib.Core.Bool.{true}
 use mathlib.Core.List.{List}
 use mathlib.Core.Logic.{_⊎_}
 use mathlib.Core.Path.{_≡_}
+use Rattle.image.specs.declared.elements.Kind.{Kind}
 use Rattle.image.specs.declared.header.Header.{Header}
 use Rattle.image.specs.Elements.{kindAt, blockAt, holdsData}
 use Rattle.image.specs.Header.{fieldsOf, headerOf, keepsHeaderRules}
@@ -15,6 +16,10 @@ pub record IsBlock (end : ℕ) (s : List ℕ) (i : ℕ) (bytes : List ℕ) : Typ
   pub before : i < end
   pub holds : holdsData (kindAt s (fieldsOf s .kinds) i) ≡ true
   pub same : blockAt s (fieldsOf s .size) (fieldsOf s .blocks) i ≡ bytes
+
+-- the same, of this one of the kinds that hold data
+abbrev pub IsBlockOf : Kind → ℕ → List ℕ → ℕ → List ℕ → Type 0
+IsBlockOf kind end s i bytes = IsBlock end s i bytes × (kindAt s (fieldsOf s .kinds) i ≡ kind)
 
 -- element i has the same kind and bytes in the image t as in s
 pub record SameElement (h : Header) (s t : List ℕ) (i : ℕ) : Type 0 where

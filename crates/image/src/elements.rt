@@ -3,7 +3,7 @@ ghost use mathlib.Core.Path.{_≡_};
 ghost use Prim.Native.Nat.{_+_, _*_, _<_, _≤_};
 ghost use lib.ListN.{length};
 ghost use Rattle.numbers.specs.Over.{part};
-ghost use Rattle.image.specs.Elements.{holdsData, isFilemark, kindAt, layBlock, layMark, recordTo};
+ghost use Rattle.image.specs.Elements.{holdsData, isFilemark, isMarked, kindAt, layBlock, layMark, recordTo};
 use crate::header::span;
 use numbers::copying::copy_block;
 use numbers::counts::put_count4;
@@ -12,6 +12,7 @@ pub enum Kind {
     Data,
     Filemark,
     Unreadable,
+    Marked, // 02, A6: data under a deleted address mark
 }
 
 const DATA: u8 = 1;
@@ -41,6 +42,7 @@ pub fn kind_at(image: &[u8], kinds: u32, i: u32) -> Kind
     match image[kind_place(kinds, i)] {
         1 => Kind::Data,
         2 => Kind::Filemark,
+        4 => Kind::Marked,
         _ => Kind::Unreadable,
     }
 }
@@ -50,8 +52,9 @@ pub fn holds_data(kind: Kind) -> bool
 {
     match kind {
         Kind::Data => true,
-        Kind::Filemark => false,
-        Kind::Unreadable => false,
+        Kind::Filemark => false, // 01: "Filemark: P + 1, stop"
+        Kind::Unreadable => false, // 01: "Unreadable: P + 1, stop"
+        Kind::Marked => true, // 02, A6: "READ copies it as data"
     }
 }
 
@@ -62,6 +65,18 @@ pub fn is_filemark(kind: Kind) -> bool
         Kind::Data => false,
         Kind::Filemark => true,
         Kind::Unreadable => false,
+        Kind::Marked => false, // 02, A6: "SPACE counts it as a block"
+    }
+}
+
+pub fn is_marked(kind: Kind) -> bool
+    ensures { λ r. ⌜ r ≡ isMarked kind ⌝ }
+{
+    match kind {
+        Kind::Data => false,
+        Kind::Filemark => false,
+        Kind::Unreadable => false,
+        Kind::Marked => true,
     }
 }
 

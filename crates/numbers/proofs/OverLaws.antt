@@ -19,6 +19,12 @@ part-length s a n h = length-take-le n (drop a s) (rw length-drop (omega arith))
 pub part-at : (s : List ℕ) (a n i : ℕ) → i < n → getD (part s a n) i 0 ≡ getD s (a + i) 0
 part-at s a n i h = getD-take n (drop a s) i 0 h ∙ getD-drop a s i 0
 
+-- its first byte and the rest
+pub part-first : (s : List ℕ) (a n : ℕ) → a < length s → part s a (suc n) ≡ getD s a 0 ∷ part s (a + 1) n
+part-first [] a n l = absurd (omega arith)
+part-first (x ∷ xs) zero n l = refl
+part-first (x ∷ xs) (suc a) n l = let y : suc a + 1 ≡ suc (a + 1) = omega arith in rw y (part-first xs a n (omega arith))
+
 -- two lists that agree on a part have the same part
 pub part-same : (s t : List ℕ) (a n : ℕ) → a + n ≤ length s → length s ≡ length t
     → ((i : ℕ) → i < n → getD s (a + i) 0 ≡ getD t (a + i) 0) → part s a n ≡ part t a n

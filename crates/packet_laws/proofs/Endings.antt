@@ -7,7 +7,7 @@ use Rattle.packet_state.specs.declared.state.Ending.the-variants.{Good, Check}
 use Rattle.packet_state.specs.declared.state.Sense.{Sense}
 use Rattle.packet_state.specs.declared.state.State.{State}
 use Rattle.packet_state.specs.Senses.{noSense}
-use Rattle.packet_parts.specs.Answers.{answeredWith, ends, goodStatus, checkCondition}
+use Rattle.packet_parts.specs.Answers.{answeredWith, ends, withMarked, goodStatus, checkCondition}
 
 abbrev pub senseOf : Ending → Sense
 senseOf Good = noSense
@@ -25,3 +25,10 @@ ends-is st (Check x) blocks bytes = refl
 -- an ending keeps the speed of the record that it is told
 pub ends-speed : (st : State) (e : Ending) (blocks bytes : ℕ) → ends st e blocks bytes .state .speed ≡ st .speed
 ends-speed st e blocks bytes = rw ends-is
+
+-- and tells of no marked block
+pub ends-unmarked : (st : State) (e : Ending) (blocks bytes : ℕ) → ends st e blocks bytes .answer .marked ≡ 0
+ends-unmarked st e blocks bytes = rw ends-is
+
+pub ends-none : (st : State) (e : Ending) (blocks bytes : ℕ) → withMarked (ends st e blocks bytes) 0 ≡ ends st e blocks bytes
+ends-none st e blocks bytes = rw ends-is

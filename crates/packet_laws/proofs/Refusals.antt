@@ -20,7 +20,7 @@ use Rattle.packet_laws.specs.Promises.{CutPacket, RefusedKeeps, NumberEx
 use Rattle.packet_laws.proofs.Ways.{FoundFor, found-for, carried, Way, cut, broken, unruly, short, ends-early, works, way, step-passed}
 
 refusal : {R : Type 0} (s : List ℕ) (st : R) (buf : List ℕ) (n : ℕ) → Refusal s st buf (refuses st n s buf)
-refusal s st buf n = record { status-zero = refl; no-blocks = refl; no-bytes = refl; state-kept = refl; image-kept = refl; buf-kept = refl }
+refusal s st buf n = record { status-zero = refl; no-blocks = refl; no-bytes = refl; no-marked = refl; state-kept = refl; image-kept = refl; buf-kept = refl }
 
 -- ---- packets that begin
 
@@ -118,6 +118,10 @@ module _ {R : Type 0} (d : Device R) (working : Working d) (s : List ℕ) (st : 
   given (bad-record t g b) = rw (eq-eqb _ _ t, g, b)
   given (too-short p e l) = ap numberOf (step-passed d s st packet buf p) ∙ short-by (found-for d s st packet buf) e l
   given (accepted p f) = ap numberOf (step-passed d s st packet buf p) ∙ accepted-by p (found-for d s st packet buf) f
+
+  -- a packet that comes to the work begins
+  pub works-begins : Passes d s st packet buf → Unended d s st packet buf → roomFor d s st packet buf ≤ length buf → Begins d s st packet buf
+  works-begins p e l = begins-of d s st packet buf (given (accepted p (λ u. l))) e
 
 module _ {R : Type 0} (d : Device R) (working : Working d) where
   pub cut-packet : CutPacket d

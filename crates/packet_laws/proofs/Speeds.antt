@@ -27,8 +27,8 @@ use Rattle.packet_parts.specs.Shell.{Device, carriedOut, answersTo}
 use Rattle.packet_work.specs.Replies.{deviceMode}
 use Rattle.packet_work.specs.Settings.{listSpeed, goodList, speedWork}
 use Rattle.packet_laws.specs.Promises.{SpeedFollows}
-use Rattle.packet_laws.specs.Words.{statusOf, accepted, AsksSpeed, SendsSpeed, Working}
-use Rattle.packet_laws.proofs.Refusals.{begins-passes, begins-room, begins-work, number-exactly, begins-exactly}
+use Rattle.packet_laws.specs.Words.{statusOf, AsksSpeed, SendsSpeed, Working}
+use Rattle.packet_laws.proofs.Refusals.{begins-passes, begins-room, begins-work, works-begins}
 use Rattle.packet_laws.proofs.Replies.{reply-at}
 use Rattle.packet_laws.proofs.Ways.{Way, cut, broken, unruly, short, ends-early, works, way}
 
@@ -123,8 +123,7 @@ module _ {R : Type 0} (d : Device R) (keeps : KeepsSpeed d) (s : List ℕ) (st :
   kept working (short p e l) f = refl
   kept working (ends-early p x e k) f = ap (λ (y : State). y .speed) (keeps .shares st (endedBefore (d .shared st) x))
   kept working (works p e l) f =
-      let number = number-exactly d working s st packet buf 0 .1 (accepted p (λ u. l)) in
-      let b = begins-exactly d working s st packet buf .1 (number, e) in
+      let b = works-begins d working s st packet buf p e l in
       keeps .leaves s (fieldsOf s) st (d .request packet) buf (λ c w g. f (record { begins = b; mode-select = c; whole = w }) g)
 
 module _ {R : Type 0} (d : Device R) (working : Working d) (keeps : KeepsSpeed d) where

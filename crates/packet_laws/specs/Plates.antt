@@ -1,4 +1,4 @@
--- What plates of any packet device are made of: an image, a record, a packet, and what must come; and the plates of 02, A2.
+-- What plates of any packet device are made of: an image, a record, a packet, and what must come; and the plates of 02, A2 and A6.
 -- Assumes nothing.
 use Prim.Native.Nat.{ℕ}
 use mathlib.Core.Bool.{Bool, true, false, _&&_}
@@ -11,9 +11,10 @@ use Rattle.numbers.specs.Over.{part}
 use Rattle.packet_state.specs.declared.state.Attention.the-variants.{Nothing}
 use Rattle.packet_state.specs.declared.state.State.{State}
 use Rattle.packet_state.specs.States.{atPlace, withAttention, freshState}
+use Rattle.packet_parts.specs.Answers.{Left}
 use Rattle.packet_parts.specs.Shell.{Device, answersTo}
 use Rattle.packet_work.specs.Settings.{goodList}
-use Rattle.packet_laws.specs.Words.{AsksSpeed, SendsSpeed}
+use Rattle.packet_laws.specs.Words.{numberOf, blocksOf, markedOf, AsksSpeed, SendsSpeed}
 
 -- 01: "Image C 4, B 512", with this W, this U and these four kinds
 abbrev pub plateImage : ℕ → ℕ → List ℕ → List ℕ
@@ -84,3 +85,58 @@ module _ {R : Type 0} (d : Device R) (s : List ℕ) where
     -- so what `SpeedFollows` supposes can be so
     pub asks : AsksSpeed d s (attended fresh) askSpeed (replicate 32 9)
     pub sends : SendsSpeed d s (attended fresh) sendSpeed (speedList 0) × (goodList (speedList 0) ≡ true)
+
+-- ---- 02, A6, worked out by hand: blocks with a deleted mark
+
+-- C 4, B 512, W 0, U 4: a marked block, a plain one, a marked one, an unreadable one
+abbrev pub markedImage : List ℕ
+markedImage = plateImage 0 4 (4 ∷ 1 ∷ 4 ∷ 3 ∷ [])
+
+-- what is sent at a place; and what must come: blocks, how many of them marked, P and the kinds of the image
+pub record MarkedPlate : Type 0 where
+  pub before : ℕ
+  pub packet : List ℕ
+  pub blocks : ℕ
+  pub marked : ℕ
+  pub place : ℕ
+  pub kinds : List ℕ
+
+-- a plate in one line
+infix 80 at_send_blocks_marked_P_kinds_
+abbrev pub at_send_blocks_marked_P_kinds_ : ℕ → List ℕ → ℕ → ℕ → ℕ → List ℕ → MarkedPlate
+at p send packet blocks n marked m P p' kinds k = record { before = p; packet = packet; blocks = n; marked = m; place = p'; kinds = k }
+
+abbrev pub markedPlates : List MarkedPlate
+markedPlates =
+    -- "a READ's answer also says how many of the blocks copied were marked": READ 1, READ 3
+    at 0 send (sent 0x08 1 0 0 1 0 0) blocks 1 marked 1 P 1 kinds (4 ∷ 1 ∷ 4 ∷ 3 ∷ [])
+    ∷ at 0 send (sent 0x08 1 0 0 3 0 0) blocks 3 marked 2 P 3 kinds (4 ∷ 1 ∷ 4 ∷ 3 ∷ [])
+    -- READ 4 stops at the unreadable block and passes it
+    ∷ at 0 send (sent 0x08 1 0 0 4 0 0) blocks 3 marked 2 P 4 kinds (4 ∷ 1 ∷ 4 ∷ 3 ∷ [])
+    -- a plain block, and with the marked one after it
+    ∷ at 1 send (sent 0x08 1 0 0 1 0 0) blocks 1 marked 0 P 2 kinds (4 ∷ 1 ∷ 4 ∷ 3 ∷ [])
+    ∷ at 1 send (sent 0x08 1 0 0 2 0 0) blocks 2 marked 1 P 3 kinds (4 ∷ 1 ∷ 4 ∷ 3 ∷ [])
+    -- "WRITE still stores kind 1.": over a marked block
+    ∷ at 2 send (sent 0x0a 1 0 0 1 0 0) blocks 1 marked 0 P 3 kinds (4 ∷ 1 ∷ 1 ∷ 3 ∷ [])
+    -- another packet says 0: TEST UNIT READY at a marked block
+    ∷ at 2 send (sent 0x00 0 0 0 0 0 0) blocks 0 marked 0 P 2 kinds (4 ∷ 1 ∷ 4 ∷ 3 ∷ [])
+    ∷ []
+
+-- "SPACE counts it as a block", where a device has it: SPACE 3 blocks on and 2 back, over a marked block, a plain one and a marked one
+abbrev pub markedSpaces : List MarkedPlate
+markedSpaces =
+    at 0 send (sent 0x11 0 0 0 3 0 0) blocks 0 marked 0 P 3 kinds (4 ∷ 1 ∷ 4 ∷ 3 ∷ [])
+    ∷ at 3 send (sent 0x11 0 0xff 0xff 0xfe 0 0) blocks 0 marked 0 P 1 kinds (4 ∷ 1 ∷ 4 ∷ 3 ∷ [])
+    ∷ []
+
+module _ {R : Type 0} (d : Device R) (placed : ℕ → R) where
+  -- what came is what the plate says
+  abbrev pub markedAgrees : MarkedPlate → Left R → Bool
+  markedAgrees p x =
+      (numberOf x ≡ᵇ 0) && (blocksOf x ≡ᵇ p .blocks) && (markedOf x ≡ᵇ p .marked) && (d .shared (x .state) .position ≡ᵇ p .place)
+      && same (part (x .image) 32 4) (p .kinds)
+
+  -- each plate of the table, with a buffer of four blocks
+  abbrev pub allMarkedAgree : List MarkedPlate → Bool
+  allMarkedAgree [] = true
+  allMarkedAgree (p ∷ ps) = markedAgrees p (answersTo d markedImage (placed (p .before)) (p .packet) (replicate 2048 9)) && allMarkedAgree ps

@@ -1,16 +1,19 @@
 -- What every packet device promises, one named type each; proofs/ proves them of any device whose work refuses nothing, the last where it keeps the speed.
 -- Assumes nothing.
-use Prim.Native.Nat.{ℕ}
+use Prim.Native.Nat.{ℕ, _+_}
 use mathlib.Core.Bool.{true}
 use mathlib.Core.List.{List}
 use mathlib.Core.Logic.{_↔_}
 use mathlib.Core.Path.{_≡_}
 use lib.ListN.{length}
+use Rattle.numbers.specs.Over.{part}
+use Rattle.image.specs.Header.{fieldsOf}
+use Rattle.opcodes.specs.declared.Command.the-variants.{Read}
 use Rattle.packet_parts.specs.Answers.{goodStatus, notTwelveBytes}
 use Rattle.packet_parts.specs.Requests.{packetLength}
 use Rattle.packet_parts.specs.Shell.{Device, answersTo}
 use Rattle.packet_work.specs.Settings.{listSpeed, goodList}
-use Rattle.packet_laws.specs.Words.{numberOf, statusOf, Refusal, Due, Unended, Begins, AsksSpeed, SendsSpeed}
+use Rattle.packet_laws.specs.Words.{numberOf, statusOf, blocksOf, markedOf, markedAmong, Refusal, Due, Unended, Begins, AsksSpeed, SendsSpeed}
 
 module _ {R : Type 0} (d : Device R) where
   -- "1: packet is not 12 bytes", whatever the image, the record and the buffer; nothing changes.
@@ -46,3 +49,12 @@ module _ {R : Type 0} (d : Device R) where
         → d .shared (answersTo d s st packet list .state) .speed ≡ listSpeed list
     pub kept : (s : List ℕ) (st : R) (packet buf : List ℕ) → (SendsSpeed d s st packet buf → goodList buf ≡ true → ⊥)
         → d .shared (answersTo d s st packet buf .state) .speed ≡ d .shared st .speed
+
+  -- 02, A6: "a READ's answer also says how many of the blocks copied were marked": of the kinds of those blocks, from P on, so many are 4. Every other packet,
+  -- and every refusal, says 0.
+  pub record MarkedCounted : Type 0 where
+    pub counted : (s : List ℕ) (st : R) (packet buf : List ℕ) → Begins d s st packet buf → d .request packet .command ≡ Read
+        → markedOf (answersTo d s st packet buf)
+        ≡ markedAmong (part s (fieldsOf s .kinds + d .shared st .position) (blocksOf (answersTo d s st packet buf)))
+    pub none : (s : List ℕ) (st : R) (packet buf : List ℕ) → (Begins d s st packet buf → d .request packet .command ≡ Read → ⊥)
+        → markedOf (answersTo d s st packet buf) ≡ 0

@@ -2,10 +2,11 @@
 -- Assumes nothing.
 use Prim.Native.Nat.{ℕ, _+_, _≤_, _<_}
 use mathlib.Core.Bool.{Bool, true, false}
-use mathlib.Core.List.{List}
+use mathlib.Core.List.{List, [], _∷_}
 use mathlib.Core.Path.{_≡_}
 use lib.ListN.{length}
-use Rattle.numbers.specs.Choice.{if_then_else_}
+use Rattle.numbers.specs.Choice.{if_then_else_, _≡ᵇ_}
+use Rattle.image.specs.Elements.{markedKind}
 use Rattle.image.specs.Header.{fieldsOf, brokenImage}
 use Rattle.opcodes.specs.declared.Command.{Command}
 use Rattle.opcodes.specs.declared.Command.the-variants.{Unknown, TestUnitReady, Rewind, RequestSense, Read, Write, WriteFilemarks, Space, Inquiry}
@@ -31,6 +32,9 @@ blocksOf x = x .answer .blocks
 abbrev pub bytesOf : {R : Type 0} → Left R → ℕ
 bytesOf x = x .answer .bytes
 
+abbrev pub markedOf : {R : Type 0} → Left R → ℕ
+markedOf x = x .answer .marked
+
 -- the information where the sense is valid, else 0
 abbrev pub residueOf : Sense → ℕ
 residueOf x = if x .valid then x .information else 0
@@ -52,13 +56,19 @@ gives LoadUnload = false
 gives Locate = false
 gives ReadPosition = true
 
+-- 02, A6: how many of these bytes of a kind table are 4, "data, marked"
+abbrev pub markedAmong : List ℕ → ℕ
+markedAmong [] = 0
+markedAmong (x ∷ xs) = (if x ≡ᵇ markedKind then 1 else 0) + markedAmong xs
+
 -- ---- refusals
 
--- 01: "A refusal returns its number, status 0, 0 blocks and bytes .., and alters nothing"
+-- 01: "A refusal returns its number, status 0, 0 blocks and bytes .., and alters nothing"; 02, A6: it tells of no marked block
 pub record Refusal {R : Type 0} (s : List ℕ) (st : R) (buf : List ℕ) (x : Left R) : Type 0 where
   pub status-zero : statusOf x ≡ 0
   pub no-blocks : blocksOf x ≡ 0
   pub no-bytes : bytesOf x ≡ 0
+  pub no-marked : markedOf x ≡ 0
   pub state-kept : x .state ≡ st
   pub image-kept : x .image ≡ s
   pub buf-kept : x .buf ≡ buf

@@ -38,10 +38,10 @@ shortBuffer = 4
 
 -- "A refusal returns its number, status 0, 0 blocks and bytes .., and alters nothing; else the number is 0."
 abbrev pub refusal : ℕ → Answer
-refusal number = record { number = number; status = 0; blocks = 0; bytes = 0 }
+refusal number = record { number = number; status = 0; blocks = 0; bytes = 0; marked = 0 }
 
 abbrev pub answered : ℕ → ℕ → ℕ → Answer
-answered status blocks bytes = record { number = 0; status = status; blocks = blocks; bytes = bytes }
+answered status blocks bytes = record { number = 0; status = status; blocks = blocks; bytes = bytes; marked = 0 }
 
 -- "One that ends before the work changes only sense and attention." (Past the attention's own check none is pending.)
 abbrev pub endedBefore : State → Sense → State
@@ -65,3 +65,18 @@ answeredWith st status sense blocks bytes = record { answer = answered status bl
 unfoldable pub ends : State → Ending → ℕ → ℕ → Outcome
 ends st Good blocks bytes = answeredWith st goodStatus noSense blocks bytes
 ends st (Check sense) blocks bytes = answeredWith st checkCondition sense blocks bytes
+
+-- 02, A6: "a READ's answer also says how many of the blocks copied were marked"; every other answer has 0 there
+abbrev pub withMarked : Outcome → ℕ → Outcome
+withMarked out marked =
+    record {
+      answer =
+          record {
+            number = out .answer .number;
+            status = out .answer .status;
+            blocks = out .answer .blocks;
+            bytes = out .answer .bytes;
+            marked = marked;
+          };
+      state = out .state;
+    }

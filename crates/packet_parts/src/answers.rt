@@ -9,7 +9,7 @@ use packet_state::state::Sense;
 use packet_state::state::State;
 use packet_state::state::with_attention;
 use packet_state::state::with_sense;
-ghost use Rattle.packet_parts.specs.Answers.{answered, refused, endsBefore, answeredWith, ends};
+ghost use Rattle.packet_parts.specs.Answers.{answered, refused, endsBefore, answeredWith, ends, withMarked};
 
 const GOOD: u8 = 0;
 
@@ -23,6 +23,7 @@ pub fn refuse(state: State, number: u8) -> Outcome
         status: 0,
         blocks: 0,
         bytes: 0,
+        marked: 0,
     };
     Outcome { answer, state }
 }
@@ -35,6 +36,7 @@ fn answer_of(status: u8, blocks: u32, bytes: u32) -> Answer
         status,
         blocks,
         bytes,
+        marked: 0,
     }
 }
 
@@ -67,4 +69,13 @@ pub fn end(state: State, ending: Ending, blocks: u32, bytes: u32) -> Outcome
         Ending::Good => answer_with(state, GOOD, no_sense(), blocks, bytes),
         Ending::Check(sense) => answer_with(state, CHECK_CONDITION, sense, blocks, bytes),
     }
+}
+
+// 02, A6: what a READ tells beside its blocks and bytes.
+pub fn with_marked(out: Outcome, marked: u32) -> Outcome
+    ensures { λ r. ⌜ r ≡ withMarked out marked ⌝ }
+{
+    let mut next = out;
+    next.answer.marked = marked;
+    next
 }

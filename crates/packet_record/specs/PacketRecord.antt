@@ -56,8 +56,8 @@ encodeState st =
     ∷ (weightOf (st .sense .valid) 1 + weightOf (st .sense .eom) 2 + weightOf (st .sense .filemark) 4)  -- 11
     ∷ countBytes 4 (st .sense .information))))  -- 12-15
 
--- "0 number; 1 status; 2-3 zero; 4-7 blocks; 8-11 bytes; 12-15 zero"
+-- "0 number; 1 status; 2-3 zero; 4-7 blocks; 8-11 bytes; 12-15 how many of the blocks that a READ copied were marked"
 unfoldable pub encodeAnswer : Answer → List ℕ
 encodeAnswer a =
     a .number ∷ a .status ∷ 0 ∷ 0
-    ∷ (countBytes 4 (a .blocks) ++ (countBytes 4 (a .bytes) ++ (0 ∷ 0 ∷ 0 ∷ 0 ∷ [])))
+    ∷ (countBytes 4 (a .blocks) ++ (countBytes 4 (a .bytes) ++ countBytes 4 (a .marked)))

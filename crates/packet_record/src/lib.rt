@@ -84,5 +84,6 @@ pub fn encode_answer(answer: Answer) -> [u8; 16]
     bytes[1] = answer.status;
     put_count4(&mut bytes, 4, answer.blocks);
     put_count4(&mut bytes, 8, answer.bytes);
+    put_count4(&mut bytes, 12, answer.marked);
     bytes
 }

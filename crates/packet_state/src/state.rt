@@ -32,6 +32,7 @@ pub struct Answer {
     pub status: u8,
     pub blocks: u32,
     pub bytes: u32,
+    pub marked: u32, // 02, A6: of the blocks that a READ copied
 }
 
 pub struct Outcome {

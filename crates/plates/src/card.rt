@@ -96,6 +96,7 @@ fn show_answer(answer: [u8; 16], state: [u8; 16], image: &[u8; 2084]) {
     show::small(b" status ", answer[1]);
     show::number(b" blocks ", count4(&answer, 4));
     show::number(b" bytes ", count4(&answer, 8));
+    show::number(b" marked ", count4(&answer, 12));
     show::number(b" P ", count4(&state, 0));
     show::number(b" U ", count4(image, 8));
 }

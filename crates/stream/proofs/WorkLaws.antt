@@ -3,7 +3,7 @@
 use mathlib.Core.Path.{_≡_, ap}
 use mathlib.Core.Bool.{Bool, true, false}
 use mathlib.Core.List.{List, _++_}
-use Prim.Native.Nat.{ℕ, _-_, _≤_}
+use Prim.Native.Nat.{ℕ, _+_, _-_, _≤_}
 use Rattle.image.specs.declared.header.Header.{Header}
 use Rattle.image.specs.Elements.{recordTo}
 use Rattle.opcodes.specs.declared.Command.{Command}
@@ -12,7 +12,7 @@ use Rattle.opcodes.specs.declared.Command.the-variants.{ModeSelect, ModeSense, 
 use Rattle.transfer.specs.declared.Moved.{Moved}
 use Rattle.transfer.specs.Reading.{Reading, reads, readFrom}
 use Rattle.transfer.specs.Writing.{writes, writeFrom, markFrom}
-use Rattle.transfer.proofs.ReadLaws.{read-run, read-left, few-moved}
+use Rattle.transfer.proofs.ReadLaws.{read-left, read-few as run-few}
 use Rattle.packet_state.specs.declared.state.Ending.{Ending}
 use Rattle.packet_state.specs.declared.state.Ending.the-variants.{Good}
 use Rattle.packet_state.specs.declared.state.Outcome.{Outcome}
@@ -23,7 +23,7 @@ use Rattle.stream_parts.specs.Checks.{askedBy}
 use Rattle.packet_state.specs.States.{atPlace}
 use Rattle.packet_parts.specs.Replies.{senseBytes, modeHeader, replyEnds, repliedInto}
 use Rattle.packet_parts.specs.Requests.{loadBit}
-use Rattle.packet_work.specs.Moving.{moves}
+use Rattle.packet_work.specs.Moving.{moves, readMoves}
 use Rattle.packet_work.specs.Settings.{loadWork}
 use Rattle.stream_parts.specs.Replies.{streamInquiry, hasPage, modePage, modeBytes, positionBytes}
 use Rattle.stream_parts.specs.Requests.{spaceCode}
@@ -37,12 +37,11 @@ module _ (s : List ℕ) (h : Header) (st : State) (asked : ℕ) (buf new : List 
   pub read-less : m .left ≤ asked
   read-less = rw (ap (λ (r : Reading). r .moved .left) run) (read-left s (h .size) (h .kinds) (h .blocks) (h .recorded) asked 0 (st .position) buf)
 
-  pub read-few : asked - m .left ≤ h .recorded
-  read-few =
-      rw (ap (λ (r : Reading). r .moved .left) run)
-      (few-moved s (h .size) (h .kinds) (h .blocks) (h .recorded) (read-run s (h .size) (h .kinds) (h .blocks) (h .recorded) asked 0 (st .position) buf))
+  pub read-few : st .position ≤ h .recorded → st .position + (asked - m .left) ≤ h .recorded
+  read-few l =
+      rw (ap (λ (r : Reading). r .moved .left) run) (run-few s (h .size) (h .kinds) (h .blocks) (h .recorded) asked 0 (st .position) buf l)
 
-  pub read-went : (x : Ending) (r : Outcome) → x ≡ endingOf h (m .stop) (m .left) → r ≡ moves st asked (h .size) m x
+  pub read-went : (x : Ending) (r : Outcome) → x ≡ endingOf h (m .stop) (m .left) → r ≡ readMoves s (h .kinds) st asked (h .size) m x
       → done r s new ≡ readWork s h st asked buf
   unfolding readWork readEnds
   read-went x r p q = rw (← run, q, p)

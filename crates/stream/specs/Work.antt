@@ -26,7 +26,7 @@ use Rattle.packet_parts.specs.declared.requests.Request.{Request}
 use Rattle.packet_parts.specs.Answers.{Left, done, ends}
 use Rattle.packet_parts.specs.Replies.{senseBytes, fullList}
 use Rattle.packet_parts.specs.Requests.{loadBit}
-use Rattle.packet_work.specs.Moving.{moves}
+use Rattle.packet_work.specs.Moving.{moves, readMoves}
 use Rattle.packet_work.specs.Replies.{replyWork}
 use Rattle.packet_work.specs.Settings.{speedWork, loadWork}
 use Rattle.stream_parts.specs.Replies.{streamInquiry, modeBytes, positionBytes, positionLength}
@@ -54,7 +54,7 @@ endingOf h AtEnd left = Check (endOfData (pastWarning h (h .recorded)) left)
 endingOf h AtBeginning left = Check (beginningOfTape left)
 
 unfoldable pub readEnds : Header → State → ℕ → List ℕ → Reading → Left State
-readEnds h st asked s r = done (moves st asked (h .size) (r .moved) (endingOf h (r .moved .stop) (r .moved .left))) s (r .buf)
+readEnds h st asked s r = done (readMoves s (h .kinds) st asked (h .size) (r .moved) (endingOf h (r .moved .stop) (r .moved .left))) s (r .buf)
 
 unfoldable pub readWork : List ℕ → Header → State → ℕ → List ℕ → Left State
 readWork s h st asked buf =

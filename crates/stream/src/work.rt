@@ -33,6 +33,7 @@ use packet_state::state::Outcome;
 use packet_state::state::State;
 use packet_state::state::stand_at;
 use packet_work::moving::end_moved;
+use packet_work::moving::end_read;
 use packet_work::replies::device_mode;
 use packet_work::replies::inquiry;
 use packet_work::replies::request_sense;
@@ -80,7 +81,7 @@ fn read(image: &[u8], h: Header, state: State, asked: u32, buf: &mut [u8]) -> Ou
     let moved = read_blocks(image, size, h.kinds, h.blocks, h.recorded, buf, asked, p);
     let stop = moved.stop;
     let ending = ending_of(h, stop, moved.left);
-    end_moved(state, asked, size, moved, ending)
+    end_read(image, h.kinds, state, asked, size, moved, ending)
 }
 
 fn write_ending(h: Header, asked: u32, moved: Moved) -> Ending

@@ -4,7 +4,7 @@ use Prim.Native.Nat.{ℕ, _-_, _≤_}
 use native.Mathlib.Omega.{arith}
 use mathlib.Core.Bool.{Bool, true, false, not, _&&_, and-false, false≢true}
 use mathlib.Core.List.{List, []}
-use mathlib.Core.Path.{_≡_, refl, sym, ap}
+use mathlib.Core.Path.{_≡_, refl, sym, ap, _∙_}
 use borrow.Author.Tests.{le-ltb, ne-eqb}
 use lib.Dec.{eqb, leb, ltb}
 use Rattle.numbers.specs.Choice.{_≡ᵇ_}
@@ -24,12 +24,13 @@ use Rattle.packet_state.specs.declared.state.Outcome.{Outcome}
 use Rattle.packet_state.specs.declared.state.State.{State}
 use Rattle.packet_state.specs.declared.state.Verdict.{Verdict}
 use Rattle.packet_parts.specs.declared.requests.Request.{Request}
-use Rattle.packet_parts.specs.Answers.{Left, shortBuffer, done, ends}
+use Rattle.packet_parts.specs.Answers.{Left, shortBuffer, done, ends, withMarked}
 use Rattle.packet_parts.specs.Replies.{fullList, replyEnds}
 use Rattle.packet_parts.specs.Shell.{refuses, carriedOut}
 use Rattle.packet_parts.proofs.VerdictLaws.{found-early, found-short, found-clear}
 use Rattle.packet_work.specs.Settings.{goodList, speedWork, loadWork}
 use Rattle.packet_laws.specs.Words.{Passes}
+use Rattle.packet_laws.proofs.Endings.{ends-none}
 use Rattle.packet_laws.proofs.Ways.{FoundFor, carried, way-beside}
 use Rattle.stream_parts.specs.Requests.{requestOf, spaceCode, toEndOfData}
 use Rattle.stream_parts.specs.Warning.{pastWarning}
@@ -40,16 +41,24 @@ use Rattle.stream_laws.specs.Demands.{EndOfDataEom}
 
 -- ---- the work of each command, now and before
 
--- READ and SPACE, by their stop
-ended : (c : Command) (h : Header) (st : State) (stop : Stop) (left blocks bytes : ℕ) (s buf : List ℕ) → readsOrSpaces c ≡ true
-    → done (ends st (endingOf h stop left) blocks bytes) s buf
-    ≡ carryingEom c h (done (ends st (endingOf (withWarning h 0) stop left) blocks bytes) s buf)
+-- READ, by its stop
+ended : (c : Command) (h : Header) (st : State) (stop : Stop) (left blocks bytes marked : ℕ) (s buf : List ℕ) → readsOrSpaces c ≡ true
+    → done (withMarked (ends st (endingOf h stop left) blocks bytes) marked) s buf
+    ≡ carryingEom c h (done (withMarked (ends st (endingOf (withWarning h 0) stop left) blocks bytes) marked) s buf)
 unfolding ends endingOf
-ended c h st Full left blocks bytes s buf e = rw e
-ended c h st AtFilemark left blocks bytes s buf e = rw e
-ended c h st AtBadBlock left blocks bytes s buf e = rw e
-ended c h st AtEnd left blocks bytes s buf e = rw e
-ended c h st AtBeginning left blocks bytes s buf e = rw e
+ended c h st Full left blocks bytes marked s buf e = rw e
+ended c h st AtFilemark left blocks bytes marked s buf e = rw e
+ended c h st AtBadBlock left blocks bytes marked s buf e = rw e
+ended c h st AtEnd left blocks bytes marked s buf e = rw e
+ended c h st AtBeginning left blocks bytes marked s buf e = rw e
+
+-- and SPACE, which tells of no marked block
+spaced : (h : Header) (st : State) (stop : Stop) (left : ℕ) (s buf : List ℕ)
+    → done (ends st (endingOf h stop left) 0 0) s buf ≡ carryingEom Space h (done (ends st (endingOf (withWarning h 0) stop left) 0 0) s buf)
+spaced h st stop left s buf =
+    ap (λ (x : Outcome). done x s buf) (sym (ends-none _ _ 0 0))
+    ∙ ended Space h st stop left 0 0 0 s buf refl
+    ∙ ap (λ (x : Outcome). carryingEom Space h (done x s buf)) (ends-none _ _ 0 0)
 
 work-now : (c : Command) (s : List ℕ) (h : Header) (st : State) (q : Request) (buf : List ℕ)
     → workOf c s h st q buf ≡ carryingEom c h (workOf c s (seenBefore c h) st q buf)
@@ -58,10 +67,10 @@ work-now Unknown s h st q buf = refl
 work-now TestUnitReady s h st q buf = refl
 work-now Rewind s h st q buf = refl
 work-now RequestSense s h st q buf = refl
-work-now Read s h st q buf = ended Read h _ _ _ _ _ s _ refl
+work-now Read s h st q buf = ended Read h _ _ _ _ _ _ s _ refl
 work-now Write s h st q buf = refl
 work-now WriteFilemarks s h st q buf = refl
-work-now Space s h st q buf = test (eqb (spaceCode q) toEndOfData) (λ e. rw e) (λ e. rw e (ended Space h _ _ _ 0 0 s buf refl))
+work-now Space s h st q buf = test (eqb (spaceCode q) toEndOfData) (λ e. rw e) (λ e. rw e (spaced h _ _ _ s buf))
 work-now Inquiry s h st q buf = refl
 work-now ModeSelect s h st q buf = refl
 work-now ModeSense s h st q buf = refl

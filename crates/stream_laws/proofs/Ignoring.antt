@@ -22,7 +22,9 @@ use Rattle.opcodes.specs.declared.Command.the-variants.{Unknown, TestUnitReady,
 use Rattle.opcodes.specs.declared.Command.the-variants.{ModeSelect, ModeSense, LoadUnload, Locate, ReadPosition}
 use Rattle.transfer.proofs.LaidLaws.{block-of}
 use Rattle.transfer.proofs.SameLaws.{Same, of-alike, LaidSame, laid-same, mark-same, block-same, read-same, blocks-on-same, blocks-back-same}
-use Rattle.transfer.proofs.SameLaws.{marks-on-same, marks-back-same}
+use Rattle.transfer.proofs.SameLaws.{marks-on-same, marks-back-same, marked-same}
+use Rattle.transfer.proofs.ReadLaws.{read-few}
+use Rattle.transfer.specs.Reading.{readFrom}
 use Rattle.transfer.specs.Writing.{Writing}
 use Rattle.packet_state.specs.declared.state.Outcome.{Outcome}
 use Rattle.packet_state.specs.declared.state.State.{State}
@@ -116,7 +118,13 @@ module _ (s t : List ℕ) (alike : AlikeBelowU s t) (st : State) where
     work-same TestUnitReady l = looked _ _
     work-same Rewind l = looked _ _
     work-same RequestSense l = looked _ _
-    work-same Read l = rw (read-same h (h .recorded) s t below (q .count) 0 (st .position) buf) (looked _ _)
+    work-same Read l =
+        let X = readFrom s (h .size) (h .kinds) (h .blocks) (h .recorded) (q .count) 0 (st .position) buf in
+        let few = read-few s (h .size) (h .kinds) (h .blocks) (h .recorded) (q .count) 0 (st .position) buf within in
+        rw (
+          read-same h (h .recorded) s t below (q .count) 0 (st .position) buf,
+          marked-same h (h .recorded) s t below (q .count - X .moved .left) (st .position) few,
+        ) (looked _ _)
     work-same Write l =
         let here = block-same h (h .recorded) full buf in
         wrote (h .size) _ _

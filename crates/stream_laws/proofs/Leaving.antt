@@ -29,6 +29,7 @@ use Rattle.transfer.specs.Reading.{readFrom}
 use Rattle.transfer.specs.Spacing.{blocksOn, blocksBack, marksOn, marksBack}
 use Rattle.transfer.specs.Writing.{Writing, blockOf, writeFrom, markOf, markFrom}
 use Rattle.transfer.proofs.ReadLaws.{read-run, read-left, read-place, read-length, copied, few-moved}
+use Rattle.transfer.proofs.MarkedLaws.{marked-few}
 use Rattle.transfer.proofs.WriteLaws.{lay-run, lay-left, lay-passed}
 use Rattle.transfer.proofs.LaidLaws.{Laid, Apart, off-kinds, off-blocks, marks-laid, blocks-laid}
 use Rattle.transfer.proofs.SpaceLaws.{blocks-on-ended, blocks-on-place, blocks-back-ended, blocks-back-place, marks-on-ended, marks-on-place}
@@ -39,12 +40,12 @@ use Rattle.packet_state.specs.declared.state.Outcome.{Outcome}
 use Rattle.packet_state.specs.declared.state.Sense.{Sense}
 use Rattle.packet_state.specs.declared.state.State.{State}
 use Rattle.packet_parts.specs.declared.requests.Request.{Request}
-use Rattle.packet_parts.specs.Answers.{Left, done, ends, endsBefore}
+use Rattle.packet_parts.specs.Answers.{Left, done, ends, endsBefore, withMarked}
 use Rattle.stream_parts.specs.Checks.{askedBy}
 use Rattle.packet_parts.specs.Replies.{senseBytes, shortList, fullList, modeHeader, firstOf, replyEnds, repliedInto}
 use Rattle.packet_parts.specs.Requests.{loadBit}
 use Rattle.packet_parts.specs.Shell.{carriedOut}
-use Rattle.packet_work.specs.Moving.{moves}
+use Rattle.packet_work.specs.Moving.{readMoves}
 use Rattle.packet_work.specs.Replies.{replyWork}
 use Rattle.packet_work.specs.Settings.{listSpeed, goodList, speedWork, loadWork}
 use Rattle.packet_work.proofs.SettingLaws.{good-speed}
@@ -70,6 +71,7 @@ pub record Accepted (h : Header) (q : Request) (x : Outcome) : Type 0 where
   pub information : x .state .sense .information ≤ q .count
   pub blocks : x .answer .blocks ≤ h .capacity
   pub bytes : x .answer .bytes ≤ x .answer .blocks * h .size + (q .length + positionLength)
+  pub marked : x .answer .marked ≤ x .answer .blocks
 
 abbrev pub outcomeOf : Left State → Outcome
 outcomeOf x = record { answer = x .answer; state = x .state }
@@ -129,7 +131,12 @@ module _ (s : List ℕ) (st : State) (q : Request) (buf : List ℕ) (good : keep
   ended : (u : ℕ) (next : State) (e : Ending) (blocks bytes : ℕ) → next .position ≤ u → isIn (next .speed) speeds ≡ true → Modest n (senseOf e)
       → blocks ≤ h .capacity → bytes ≤ blocks * h .size + (q .length + positionLength) → Accepted (withRecorded h u) q (ends next e blocks bytes)
   ended u next e blocks bytes p f m b l =
-      rw ends-is (record { number = refl; ruly = record { place = p; speed = f; key = m .0 }; information = m .1; blocks = b; bytes = l })
+      rw ends-is
+      (record { number = refl; ruly = record { place = p; speed = f; key = m .0 }; information = m .1; blocks = b; bytes = l; marked = omega arith })
+
+  -- with so many of its blocks told as marked
+  telling : (u : ℕ) (x : Outcome) (k : ℕ) → k ≤ x .answer .blocks → Accepted (withRecorded h u) q x → Accepted (withRecorded h u) q (withMarked x k)
+  telling u x k l a = record { number = a .number; ruly = a .ruly; information = a .information; blocks = a .blocks; bytes = a .bytes; marked = l }
 
   -- nothing but the record changes
   quiet : (next : State) (e : Ending) (bytes : ℕ) → next .position ≤ h .recorded → isIn (next .speed) speeds ≡ true
@@ -143,7 +150,8 @@ module _ (s : List ℕ) (st : State) (q : Request) (buf : List ℕ) (good : keep
       let r = kept-rules in
       let k : Ruly (h .recorded) (endsBefore st x .state) = record { place = r .place; speed = r .speed; key = m .0 } in
       stays storing giving (endsBefore st x) buf
-      (record { number = refl; ruly = k; information = omega arith; blocks = omega arith; bytes = omega arith }) refl (λ i l. refl) (λ f. refl) (λ f. refl)
+      (record { number = refl; ruly = k; information = omega arith; blocks = omega arith; bytes = omega arith; marked = omega arith })
+      refl (λ i l. refl) (λ f. refl) (λ f. refl)
 
   replies : (bytes : List ℕ) (asked : ℕ) → asked ≤ q .length + positionLength → min asked (length bytes) ≤ length buf
       → Leaves s st q buf false true (replyWork bytes asked st s buf)
@@ -167,10 +175,11 @@ module _ (s : List ℕ) (st : State) (q : Request) (buf : List ℕ) (good : keep
       let e = endingOf h (X .moved .stop) (X .moved .left) in
       let m = ending-modest h (X .moved .stop) (X .moved .left) in
       let run = read-run s (h .size) (h .kinds) (h .blocks) (h .recorded) n 0 p buf in
-      let few = few-moved s (h .size) (h .kinds) (h .blocks) (h .recorded) run in
+      let few = few-moved s (h .size) (h .kinds) (h .blocks) (h .recorded) run (r .place) in
       let g = sound s h (good-header s good) in
-      stays false true (moves st n (h .size) (X .moved) e) (X .buf)
-      (ended (h .recorded) _ e _ _ place (r .speed) (omega arith) (omega arith) (omega arith))
+      stays false true (readMoves s (h .kinds) st n (h .size) (X .moved) e) (X .buf)
+      (telling (h .recorded) _ _ (rw ends-is (marked-few s (h .kinds) (n - X .moved .left) p))
+      (ended (h .recorded) _ e _ _ place (r .speed) (omega arith) (omega arith) (omega arith)))
       (read-length s (h .size) (h .kinds) (h .blocks) (h .recorded) n 0 p buf (omega arith))
       (λ i m.
       copied s (h .size) (h .kinds) (h .blocks) (h .recorded) run (omega arith)
@@ -340,7 +349,8 @@ module _ (s : List ℕ) (st : State) (packet buf : List ℕ) where
   accepted-by (broken t b) e = absurd (omega arith)
   accepted-by (unruly t g b) e = absurd (omega arith)
   accepted-by (short p f l) e = absurd (omega arith)
-  accepted-by (ends-early p x f k) e = early-leaves s st (requestOf packet) buf (p .good) (p .ruly) (stores packet) (gives (requestOf packet .command)) x (omega (arith, k))
+  accepted-by (ends-early p x f k) e =
+      early-leaves s st (requestOf packet) buf (p .good) (p .ruly) (stores packet) (gives (requestOf packet .command)) x (omega (arith, k))
   accepted-by (works p f l) e = work-leaves s st (requestOf packet) buf (p .good) (p .ruly) (requestOf packet .command) l
 
   pub accepted-leaves : numberOf (packetStep s st packet buf) ≡ 0 → LeavesSo (packetStep s st packet buf)

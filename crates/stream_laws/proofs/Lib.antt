@@ -3,6 +3,7 @@ pub mod Endings
 pub mod Ignoring
 pub mod Keeping
 pub mod Leaving
+pub mod Marked
 pub mod PlateTable
 pub mod ReadingBack
 pub mod Refusals

@@ -1,4 +1,4 @@
--- 01's worked examples marked *, and those of 02, A2 and A3, computed.
+-- 01's worked examples marked *, and those of 02, A2, A3 and A6, computed.
 -- Assumes nothing.
 use native.Mathlib.Omega.{arith}
 use mathlib.Core.Path.{refl}
@@ -7,6 +7,7 @@ use Rattle.numbers.specs.RuleList.{allHold}
 use Rattle.image.specs.Elements.{kindOf, kindAt, blockAt, layBlock, layMark, recordTo}
 use Rattle.image.specs.Header.{fieldsOf, keepsHeaderRules, headerOf}
 use Rattle.opcodes.specs.Commands.{streamCommand}
+use Rattle.transfer.specs.Marked.{markedFrom}
 use Rattle.transfer.specs.Reading.{stopAt, readFrom}
 use Rattle.transfer.specs.Spacing.{blocksOn, blocksBack, marksOn, marksBack}
 use Rattle.transfer.specs.Writing.{layFrom}
@@ -21,7 +22,7 @@ use Rattle.stream_parts.specs.Requests.{requestOf, isBack, magnitude}
 use Rattle.packet_state.specs.States.{keepsRecordRules}
 use Rattle.stream.specs.Work.{endingOf, readEnds, readWork, writeEnding, writeEnds, writeWork, markWork, spaceRun, spaceWork, selectWork}
 use Rattle.stream.specs.Work.{locateWork, workOf}
-use Rattle.stream_laws.specs.Demands.{PlatesPrint, EndOfDataPlates, SpeedPlates, WorkBegins}
+use Rattle.stream_laws.specs.Demands.{PlatesPrint, EndOfDataPlates, SpeedPlates, MarkedPlates, WorkBegins}
 
 pub plates-print : PlatesPrint
 unfolding answersTo decided carriedOut verdictBy foundFirst askedBy requestOf requestUnder isBack magnitude keepsRecordRules streamCommand
@@ -49,6 +50,12 @@ speed-plates =
       sends = (record { begins = record { not-refused = refl; works = refl }; mode-select = refl; whole = refl }, refl);
     }
 
+pub marked-plates : MarkedPlates
+unfolding answersTo decided carriedOut verdictBy foundFirst askedBy requestOf requestUnder isBack magnitude keepsRecordRules streamCommand
+    headerOf keepsHeaderRules fieldsOf allHold isIn kindOf kindAt blockAt layBlock recordTo stopAt readFrom markedFrom blocksOn blocksBack layFrom
+    ends endingOf readEnds readWork writeEnding writeEnds writeWork spaceRun spaceWork workOf
+marked-plates = (refl, refl)
+
 pub work-begins : WorkBegins
 unfolding answersTo decided carriedOut verdictBy foundFirst askedBy requestOf requestUnder isBack magnitude keepsRecordRules streamCommand
     headerOf keepsHeaderRules fieldsOf allHold isIn kindOf kindAt blockAt layBlock layMark recordTo stopAt readFrom blocksOn blocksBack
@@ -60,4 +67,5 @@ work-begins =
       write = (record { not-refused = refl; works = refl }, omega arith);
       filemarks = (record { not-refused = refl; works = refl }, omega arith);
       unreadable = refl;
+      marked = (record { good = refl; before = omega arith; holds = refl; same = refl }, refl);
     }

@@ -1,4 +1,4 @@
--- A written block reads back the same until something is stored at or before its place.
+-- A written block reads back the same until something is stored at or before its place, and so does a marked one.
 -- Assumes nothing.
 use Prim.Native.Nat.{ℕ, suc, _+_, _*_, _-_, _≤_, _<_}
 use native.Mathlib.Omega.{arith}
@@ -9,11 +9,13 @@ use lib.Dec.{leb, eqb}
 use lib.ListN.{length}
 use Rattle.numbers.specs.Over.{part}
 use Rattle.numbers.proofs.Cases.{test}
+use Rattle.image.specs.declared.elements.Kind.{Kind}
+use Rattle.image.specs.declared.elements.Kind.the-variants.{Data, Marked}
 use Rattle.image.specs.declared.header.Header.{Header}
 use Rattle.image.specs.declared.header.Judged.the-variants.{Good}
 use Rattle.image.specs.Elements.{holdsData, blockAt}
 use Rattle.image.specs.Header.{fieldsOf, headerOf, withRecorded}
-use Rattle.image.proofs.HeaderLaws.{fields-are, good-header, is-block, sound}
+use Rattle.image.proofs.HeaderLaws.{fields-are, good-header, is-block-of, sound}
 use Rattle.opcodes.specs.declared.Command.the-variants.{Read}
 use Rattle.transfer.specs.Reading.{readFrom}
 use Rattle.transfer.proofs.BlockLaws.{moved-blocks}
@@ -29,8 +31,8 @@ use Rattle.stream.specs.Work.{workOf, readWork, readEnds}
 use Rattle.packet_laws.specs.Words.{numberOf, blocksOf}
 use Rattle.packet_laws.proofs.Endings.{ends-is}
 use Rattle.packet_laws.proofs.Refusals.{begins-passes}
-use Rattle.stream_laws.specs.Words.{stores, IsRecorded}
-use Rattle.stream_laws.specs.History.{StoresUpTo, Later, at-once, asked, replaced}
+use Rattle.stream_laws.specs.Words.{stores, IsRecorded, IsRecordedAs}
+use Rattle.stream_laws.specs.History.{StoresUpTo, Later, at-once, asked, replaced, ReadsBackAs}
 use Rattle.stream_laws.specs.Demands.{ReadsBack, ReadGives, ReadMoves}
 use Rattle.stream_laws.proofs.Leaving.{accepted-leaves}
 use Rattle.stream_laws.proofs.Refusals.{refused-keeps}
@@ -39,15 +41,15 @@ use Rattle.stream_laws.proofs.Working.{step-is, room-is}
 
 -- ---- one packet
 
-module _ (i : ℕ) (bytes : List ℕ) (s : List ℕ) (st : State) (packet buf : List ℕ) (block : IsRecorded s i bytes)
+module _ (kind : Kind) (i : ℕ) (bytes : List ℕ) (s : List ℕ) (st : State) (packet buf : List ℕ) (block : IsRecordedAs kind s i bytes)
     (spared : StoresUpTo i s st packet buf → ⊥) where
   abbrev x : Left State
   x = packetStep s st packet buf
 
-  same-image : x .image ≡ s → IsRecorded (x .image) i bytes
+  same-image : x .image ≡ s → IsRecordedAs kind (x .image) i bytes
   same-image e = rw e block
 
-  accepted-block : numberOf x ≡ 0 → IsRecorded (x .image) i bytes
+  accepted-block : numberOf x ≡ 0 → IsRecordedAs kind (x .image) i bytes
   accepted-block e =
       let w = accepted-leaves s st packet buf e in
       test (stores packet) (λ p. test (eqb (blocksOf x) 0) (λ q. same-image (w .none-stored (eqb-true _ _ q))) (λ q.
@@ -57,21 +59,22 @@ module _ (i : ℕ) (bytes : List ℕ) (s : List ℕ) (st : State) (packet buf : 
       absurd (spared (record { a-store = p; some = omega arith; from = omega arith }))) (λ r.
       let l = leb-false _ _ r in
       let k = w .below i l in
-      is-block _ (x .image) (withRecorded (fieldsOf s) (w .u)) i bytes (w .header) (rw (fields-are _ _ (w .header)) (omega (arith, w .reached)))
-      (ap holdsData (k .kind) ∙ block .holds) (k .bytes ∙ block .same))))
+      is-block-of kind (ap holdsData (sym (block .1)) ∙ block .0 .holds) _ (x .image) (withRecorded (fieldsOf s) (w .u)) i bytes
+      (w .header) (rw (fields-are _ _ (w .header)) (omega (arith, w .reached))) (k .kind ∙ block .1) (k .bytes ∙ block .0 .same))))
       (λ p. same-image (w .no-store p))
 
-  still-block : IsRecorded (x .image) i bytes
+  still-block : IsRecordedAs kind (x .image) i bytes
   still-block =
       test (eqb (numberOf x) 0) (λ e. accepted-block (eqb-true _ _ e))
       (λ e. same-image (refused-keeps s st packet buf (eqb-false _ _ e) .image-kept))
 
 -- ---- a whole history
 
-later-block : (i : ℕ) (bytes : List ℕ) {s s' : List ℕ} {st st' : State} → Later i s st s' st' → IsRecorded s i bytes → IsRecorded s' i bytes
-later-block i bytes at-once b = b
-later-block i bytes (asked packet buf l f) b = still-block i bytes _ _ packet buf (later-block i bytes l b) f
-later-block i bytes (replaced st'' l) b = later-block i bytes l b
+later-block : (kind : Kind) (i : ℕ) (bytes : List ℕ) {s s' : List ℕ} {st st' : State} → Later i s st s' st'
+    → IsRecordedAs kind s i bytes → IsRecordedAs kind s' i bytes
+later-block kind i bytes at-once b = b
+later-block kind i bytes (asked packet buf l f) b = still-block kind i bytes _ _ packet buf (later-block kind i bytes l b) f
+later-block kind i bytes (replaced st'' l) b = later-block kind i bytes l b
 
 -- ---- what READ copies
 
@@ -111,11 +114,18 @@ read-moves s st packet buf bytes b c =
     rw (step-is s st packet buf b Read c)
     (moves-first s st (requestOf packet) buf (good-header s (p .good)) (ruly-of _ _ (p .ruly) .place) (room-is s st packet buf b Read c) bytes)
 
-pub reads-back : ReadsBack
-reads-back s st packet buf b c j n s' st' l =
-    let w = later-block (st .position + j) _ l (blocks-stored s st packet buf b c j n) in (
+reads-back-as : (kind : Kind) (i : ℕ) (bytes s : List ℕ) (st : State) → IsRecordedAs kind s i bytes → ReadsBackAs kind i bytes s st
+reads-back-as kind i bytes s st block s' st' l =
+    let w = later-block kind i bytes l block in (
       w,
-      λ packet' buf' b' c' k m e.
-          let r = read-gives s' st' packet' buf' b' c' k m in
-          sym (r .same) ∙ ap (λ (i : ℕ). blockAt s' (fieldsOf s' .size) (fieldsOf s' .blocks) i) e ∙ w .same,
+      λ packet buf b c k m e.
+          let r = read-gives s' st' packet buf b c k m in
+          sym (r .same) ∙ ap (λ (i : ℕ). blockAt s' (fieldsOf s' .size) (fieldsOf s' .blocks) i) e ∙ w .0 .same,
     )
+
+pub reads-back : ReadsBack
+reads-back =
+    record {
+      written = λ s st packet buf b c j n. reads-back-as Data (st .position + j) _ _ _ (blocks-stored s st packet buf b c j n);
+      marked = reads-back-as Marked;
+    }

@@ -11,8 +11,7 @@ use lib.ListN.{getD}
 use lib.Seq.{ext-getD}
 use Rattle.numbers.specs.Over.{part}
 use Rattle.numbers.proofs.OverLaws.{part-at}
-use Rattle.image.specs.declared.elements.Kind.{Kind}
-use Rattle.image.specs.declared.elements.Kind.the-variants.{Data, Filemark, Unreadable}
+use Rattle.image.specs.declared.elements.Kind.the-variants.{Data, Filemark}
 use Rattle.numbers.proofs.Cases.{test}
 use Rattle.image.specs.declared.header.Header.{Header}
 use Rattle.image.specs.declared.header.Judged.the-variants.{Good}
@@ -26,15 +25,16 @@ use Rattle.packet_state.specs.declared.state.State.{State}
 use Rattle.packet_state.specs.Senses.{volumeOverflow}
 use Rattle.packet_state.specs.States.{atPlace, withSense}
 use Rattle.packet_parts.specs.Answers.{Left}
-use Rattle.packet_laws.specs.Words.{statusOf, blocksOf, bytesOf, gives}
+use Rattle.packet_laws.specs.Words.{statusOf, blocksOf, bytesOf, markedOf, markedAmong, gives}
 use Rattle.stream_parts.specs.Requests.{requestOf}
 use Rattle.stream.specs.Packet.{packetStep}
 use Rattle.stream_laws.specs.Words.{BeginsWork, Moves, by-read, by-write, by-filemarks, storesOn, stores}
-use Rattle.stream_laws.specs.Words.{IsRecorded, IsElement, AlikeBelowU, CountsData, GoodRead, GoodWrite, SameBelowU}
+use Rattle.stream_laws.specs.Words.{IsRecordedAs, IsElement, AlikeBelowU, CountsData, GoodRead, GoodWrite, SameBelowU}
 use Rattle.stream_laws.specs.Words.{ReadWay, all-copied, met-filemark, met-bad-block, met-end, ReadEnds}
 use Rattle.stream_laws.specs.Words.{WriteWay, all-stored, past-warning, met-capacity}
 use Rattle.stream_laws.specs.Demands.{ReadSettled, WriteSettled}
 use Rattle.stream_laws.proofs.Keeping.{stays-good, beyond-kept}
+use Rattle.stream_laws.proofs.Marked.{marked-counted}
 use Rattle.stream_laws.proofs.ReadingBack.{read-gives}
 use Rattle.stream_laws.proofs.Storing.{blocks-stored, marks-stored, none-stored}
 use Rattle.stream_laws.proofs.Telling.{read-tells-why, write-tells-why, write-stood, bytes-are-blocks, record-kept}
@@ -85,13 +85,14 @@ no-more s p n x y d r t =
 
 -- ---- one answer and one record
 
-answer-of : ℕ → ℕ → ℕ → ℕ → Answer
-answer-of number status blocks bytes = record { number = number; status = status; blocks = blocks; bytes = bytes }
+answer-of : ℕ → ℕ → ℕ → ℕ → ℕ → Answer
+answer-of number status blocks bytes marked = record { number = number; status = status; blocks = blocks; bytes = bytes; marked = marked }
 
-same-answer : (a b : Answer) → a .number ≡ b .number → a .status ≡ b .status → a .blocks ≡ b .blocks → a .bytes ≡ b .bytes → a ≡ b
+same-answer : (a b : Answer) → a .number ≡ b .number → a .status ≡ b .status → a .blocks ≡ b .blocks → a .bytes ≡ b .bytes → a .marked ≡ b .marked → a ≡ b
 unfolding answer-of
-same-answer a b e f g k =
-    let z : answer-of (a .number) (a .status) (a .blocks) (a .bytes) ≡ answer-of (b .number) (b .status) (b .blocks) (b .bytes) = rw (e, f, g, k) in
+same-answer a b e f g k m =
+    let z : answer-of (a .number) (a .status) (a .blocks) (a .bytes) (a .marked) ≡ answer-of (b .number) (b .status) (b .blocks) (b .bytes) (b .marked)
+    = rw (e, f, g, k, m) in
     z
 
 -- the record changed its place and sense alone, and these are the same
@@ -133,6 +134,10 @@ module _ (s : List ℕ) (st : State) (n : ℕ) (buf : List ℕ) (x y : Left Stat
   same-bytes : bytesOf x ≡ bytesOf y
   same-bytes = g .bytes ∙ ap (λ (k : ℕ). k * fieldsOf s .size) same-blocks ∙ sym (g' .bytes)
 
+  same-marked : markedOf x ≡ markedOf y
+  same-marked =
+      g .marked ∙ ap (λ (k : ℕ). markedAmong (part s (fieldsOf s .kinds + st .position) k)) same-blocks ∙ sym (g' .marked)
+
   same-buf : x .buf ≡ y .buf
   same-buf = ext-getD 0 (x .buf) (y .buf) (g .buf-length ∙ sym (g' .buf-length)) (λ i l. by i (leb (bytesOf x) i) refl)
     where
@@ -149,7 +154,7 @@ module _ (s : List ℕ) (st : State) (n : ℕ) (buf : List ℕ) (x y : Left Stat
   unfolding left-of
   same-left =
       let z = read-same (rw same-blocks at (g .ends)) (g' .ends) in
-      let a = same-answer (x .answer) (y .answer) (g .accepted ∙ sym (g' .accepted)) (z .0) same-blocks same-bytes in
+      let a = same-answer (x .answer) (y .answer) (g .accepted ∙ sym (g' .accepted)) (z .0) same-blocks same-bytes same-marked in
       let b = same-state st (x .state) (y .state) (g .state-kept) (g' .state-kept) (z .1) (z .2) in
       let d : left-of (x .answer) (x .state) (x .image) (x .buf) ≡ left-of (y .answer) (y .state) (y .image) (y .buf)
       = rw (a, b, g .image-kept ∙ sym (g' .image-kept), same-buf) in
@@ -165,6 +170,7 @@ read-settled =
             ends = read-tells-why s st packet buf b c;
             counts = read-gives s st packet buf b c;
             bytes = bytes-are-blocks .read s st packet buf b c;
+            marked = marked-counted .counted s st packet buf b c;
             state-kept = record-kept s st packet buf b (rw c by-read);
             image-kept = k .image-kept (ap storesOn c);
             buf-length = k .buf-length;
@@ -188,11 +194,6 @@ write-same (met-capacity l d) (past-warning e m w b) = absurd (omega arith)
 write-same {p = p} {n = n} {k = k} {k' = k'} (met-capacity l d) (met-capacity l' d') =
     let z : k ≡ k' = omega arith in
     (refl, z, ap (λ (i : ℕ). volumeOverflow (n - i)) z, ap (λ (i : ℕ). p + i) z)
-
-data-of : (kind : Kind) → holdsData kind ≡ true → kind ≡ Data
-data-of Data e = refl
-data-of Filemark e = absurd (false≢true e)
-data-of Unreadable e = absurd (false≢true e)
 
 module _ (Holds : List ℕ → ℕ → Type 0) (each : ℕ) (s : List ℕ) (st : State) (n : ℕ) (buf : List ℕ)
     (alike : (t t' : List ℕ) (j : ℕ) → fieldsOf t' ≡ fieldsOf t → Holds t j → Holds t' j → ReadsSame (fieldsOf t) t t' (st .position + j))
@@ -239,7 +240,8 @@ module _ (Holds : List ℕ → ℕ → Type 0) (each : ℕ) (s : List ℕ) (st :
   same-below =
       record {
         answer = same-answer (x .answer) (y .answer) (g .accepted ∙ sym (g' .accepted)) (told .0) (told .1)
-            (g .bytes ∙ ap (λ (k : ℕ). k * each) (told .1) ∙ sym (g' .bytes));
+            (g .bytes ∙ ap (λ (k : ℕ). k * each) (told .1) ∙ sym (g' .bytes))
+            (g .no-marked ∙ sym (g' .no-marked));
         state = one-state;
         buf = g .buf-kept ∙ sym (g' .buf-kept);
         images = test (leb 1 (blocksOf x)) (λ e. one-image (leb-true 1 (blocksOf x) e)) (λ e.
@@ -248,12 +250,12 @@ module _ (Holds : List ℕ → ℕ → Type 0) (each : ℕ) (s : List ℕ) (st :
             (record { header = refl; elements = λ i l. record { kind = refl; bytes = λ d. refl } }));
       }
 
-blocks-alike : (p size : ℕ) (buf t t' : List ℕ) (j : ℕ) → fieldsOf t' ≡ fieldsOf t → IsRecorded t (p + j) (part buf (j * size) size)
-    → IsRecorded t' (p + j) (part buf (j * size) size) → ReadsSame (fieldsOf t) t t' (p + j)
+blocks-alike : (p size : ℕ) (buf t t' : List ℕ) (j : ℕ) → fieldsOf t' ≡ fieldsOf t → IsRecordedAs Data t (p + j) (part buf (j * size) size)
+    → IsRecordedAs Data t' (p + j) (part buf (j * size) size) → ReadsSame (fieldsOf t) t t' (p + j)
 blocks-alike p size buf t t' j e a b =
-    let k = rw e at (b .holds) in
-    let w = rw e at (b .same) in
-    record { kind = data-of _ k ∙ sym (data-of _ (a .holds)); bytes = λ d. w ∙ sym (a .same) }
+    let k = rw e at (b .1) in
+    let w = rw e at (b .0 .same) in
+    record { kind = k ∙ sym (a .1); bytes = λ d. w ∙ sym (a .0 .same) }
 
 marks-alike : (p : ℕ) (t t' : List ℕ) (j : ℕ) → fieldsOf t' ≡ fieldsOf t → IsElement t (p + j) Filemark → IsElement t' (p + j) Filemark
     → ReadsSame (fieldsOf t) t t' (p + j)
@@ -276,6 +278,7 @@ module _ (Holds : List ℕ → ℕ → Type 0) (each : ℕ) (s : List ℕ) (st :
         stored = stored;
         recorded = λ l. w .1 ∙ ap (λ (u : ℕ). withRecorded (fieldsOf s) u) (k .recorded-new storing l);
         bytes = bytes;
+        no-marked = marked-counted .none s st packet buf (λ b' r. false≢true (sym giving ∙ ap gives r));
         state-kept = record-kept s st packet buf b moving;
         image-good = w .0;
         image-kept = none-stored s st packet buf;

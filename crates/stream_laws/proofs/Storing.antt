@@ -4,18 +4,18 @@ use Prim.Native.Nat.{ℕ, _+_, _*_, _-_, _≤_, _<_}
 use native.Mathlib.Nat.{le-refl, zero-add}
 use native.Mathlib.Omega.{arith}
 use mathlib.Core.List.{List}
-use mathlib.Core.Path.{_≡_, ap, _∙_}
+use mathlib.Core.Path.{_≡_, refl, _∙_}
 use borrow.Author.Tests.{eqb-true, eqb-false}
 use lib.Dec.{eqb}
 use lib.ListN.{length}
 use Rattle.numbers.specs.Over.{part}
-use Rattle.image.specs.declared.elements.Kind.the-variants.{Filemark}
+use Rattle.image.specs.declared.elements.Kind.the-variants.{Data, Filemark}
 use Rattle.numbers.proofs.Cases.{test}
 use Rattle.image.specs.declared.header.Header.{Header}
 use Rattle.image.specs.declared.header.Judged.the-variants.{Good}
-use Rattle.image.specs.Elements.{holdsData, recordTo}
+use Rattle.image.specs.Elements.{recordTo}
 use Rattle.image.specs.Header.{fieldsOf, headerOf, withRecorded}
-use Rattle.image.proofs.HeaderLaws.{fields-are, good-header, is-block, sound}
+use Rattle.image.proofs.HeaderLaws.{fields-are, good-header, is-block-of, sound}
 use Rattle.image.proofs.StoreLaws.{recordedAfter, after-reached, record-header, record-kind, record-bytes}
 use Rattle.opcodes.specs.declared.Command.the-variants.{Write, WriteFilemarks}
 use Rattle.transfer.specs.Writing.{blockOf, writeFrom, markOf, markFrom}
@@ -31,7 +31,7 @@ use Rattle.stream.specs.Work.{workOf, writeWork, writeEnds, markWork}
 use Rattle.packet_laws.specs.Words.{numberOf, blocksOf}
 use Rattle.packet_laws.proofs.Endings.{ends-is}
 use Rattle.packet_laws.proofs.Refusals.{begins-passes}
-use Rattle.stream_laws.specs.Words.{IsRecorded, IsElement}
+use Rattle.stream_laws.specs.Words.{IsRecordedAs, IsElement}
 use Rattle.stream_laws.specs.Demands.{BlocksStored, MarksStored, NoneStored}
 use Rattle.stream_laws.proofs.Leaving.{accepted-leaves}
 use Rattle.stream_laws.proofs.Refusals.{refused-keeps}
@@ -42,7 +42,7 @@ module _ (s : List ℕ) (st : State) (q : Request) (buf : List ℕ) (good : head
   h = fieldsOf s
 
   written : q .count * h .size ≤ length buf → (j : ℕ) → j < blocksOf (writeWork s h st (q .count) buf)
-      → IsRecorded (writeWork s h st (q .count) buf .image) (st .position + j) (part buf (j * h .size) (h .size))
+      → IsRecordedAs Data (writeWork s h st (q .count) buf .image) (st .position + j) (part buf (j * h .size) (h .size))
   unfolding writeWork writeEnds
   written room j b =
       let n = q .count in
@@ -58,9 +58,9 @@ module _ (s : List ℕ) (st : State) (q : Request) (buf : List ℕ) (good : head
       let c = after-reached (h .recorded) (st .position) to (omega arith) in
       let b = w .reached in
       let e = record-header (X .image) h (w .header) (st .position) to b in
-      is-block _ (recordTo (X .image) (st .position) to) (withRecorded h (recordedAfter (h .recorded) (st .position) to)) (st .position + j) _
+      is-block-of Data refl _ (recordTo (X .image) (st .position) to) (withRecorded h (recordedAfter (h .recorded) (st .position) to)) (st .position + j) _
       e (rw (fields-are _ _ e) (omega arith))
-      (ap holdsData (record-kind (X .image) h (w .header) (st .position) to b (st .position + j) ∙ z .0))
+      (record-kind (X .image) h (w .header) (st .position) to b (st .position + j) ∙ z .0)
       (record-bytes (X .image) h (w .header) (st .position) to b (st .position + j) (omega arith) ∙ rw zero-add at (z .1))
 
   marked : (j : ℕ) → j < blocksOf (markWork s h st (q .count) buf) → IsElement (markWork s h st (q .count) buf .image) (st .position + j) Filemark

@@ -8,7 +8,7 @@ use lib.ListN.{replicate}
 use Rattle.numbers.specs.Member.{isIn}
 use Rattle.numbers.specs.Outcomes.{Settles}
 use Rattle.numbers.specs.Over.{part}
-use Rattle.image.specs.declared.elements.Kind.the-variants.{Filemark}
+use Rattle.image.specs.declared.elements.Kind.the-variants.{Data, Filemark, Marked}
 use Rattle.image.specs.Header.{fieldsOf, keepsHeaderRules, withRecorded}
 use Rattle.opcodes.specs.declared.Command.the-variants.{Read, Write, WriteFilemarks, Locate}
 use Rattle.packet_state.specs.declared.state.Outcome.{Outcome}
@@ -16,17 +16,17 @@ use Rattle.packet_state.specs.declared.state.State.{State}
 use Rattle.packet_state.specs.Senses.{unreadableBlock}
 use Rattle.packet_state.specs.States.{freshState, changedState, speeds, keepsRecordRules, atPlace, withSense}
 use Rattle.packet_parts.specs.Answers.{Left}
-use Rattle.packet_laws.specs.Plates.{standing, sent, SpeedPlates as SpeedPlatesOf}
+use Rattle.packet_laws.specs.Plates.{standing, sent, SpeedPlates as SpeedPlatesOf, markedImage, markedPlates, markedSpaces, allMarkedAgree}
 use Rattle.packet_laws.specs.Promises.{CutPacket as CutPacketOf, RefusedKeeps as RefusedKeepsOf, NumberExactly as NumberExactlyOf}
-use Rattle.packet_laws.specs.Promises.{BeginsExactly as BeginsExactlyOf, SpeedFollows as SpeedFollowsOf}
+use Rattle.packet_laws.specs.Promises.{BeginsExactly as BeginsExactlyOf, SpeedFollows as SpeedFollowsOf, MarkedCounted as MarkedCountedOf}
 use Rattle.packet_laws.specs.Words.{numberOf, blocksOf, bytesOf, residueOf}
 use Rattle.stream_parts.specs.Requests.{requestOf}
 use Rattle.stream_parts.specs.Warning.{pastWarning}
 use Rattle.stream.specs.Packet.{FreshPromise, ChangedPromise, PacketPromise, streamDevice, packetStep}
 use Rattle.stream_laws.specs.EndOfData.{stepBefore, readsOrSpaces, tellsEnd, carryingEom}
-use Rattle.stream_laws.specs.History.{Later}
+use Rattle.stream_laws.specs.History.{ReadsBackAs}
 use Rattle.stream_laws.specs.Plates.{image, unreadableAtTwo, readTwo, allAgree, plates, endPlates, BeginsAndMoves}
-use Rattle.stream_laws.specs.Words.{BeginsWork, Moves, stores, IsRecorded, IsElement, EveryReadGives, Kept, AlikeBelowU}
+use Rattle.stream_laws.specs.Words.{BeginsWork, Moves, stores, IsRecorded, IsRecordedAs, IsElement, Kept, AlikeBelowU}
 use Rattle.stream_laws.specs.Words.{ReadEnds, WriteEnds, passedBeside, GoodRead, BlocksGood, MarksGood, SameBelowU}
 
 -- What every packet device promises: "1: packet is not 12 bytes", whatever the image, the record and the buffer; nothing changes.
@@ -48,6 +48,10 @@ BeginsExactly = BeginsExactlyOf streamDevice
 -- 02, A2: 1Ah gives the record's speed, 15h sets it exactly where its list is good, and no other packet changes it.
 abbrev pub SpeedFollows : Type 0
 SpeedFollows = SpeedFollowsOf streamDevice
+
+-- 02, A6: a READ's answer says how many of the blocks that it copied have kind 4, every other answer 0.
+abbrev pub MarkedCounted : Type 0
+MarkedCounted = MarkedCountedOf streamDevice
 
 -- "For every read or write that begins, blocks moved plus residue equal blocks asked."
 abbrev pub MovedPlusResidue : Type 0
@@ -96,7 +100,7 @@ RecordKept =
     (s : List ℕ) (st : State) (packet buf : List ℕ) → BeginsWork s st packet buf → Moves (requestOf packet .command)
     → packetStep s st packet buf .state ≡ withSense (atPlace st (packetStep s st packet buf .state .position)) (packetStep s st packet buf .state .sense)
 
--- A READ that begins is all that 01 and 02, A3 ask of it, and nothing of it is left open: two drives that do what they ask leave the same.
+-- A READ that begins is all that 01 and 02, A3 and A6 ask of it, and nothing of it is left open: two drives that do what they ask leave the same.
 pub record ReadSettled : Type 0 where
   pub good : (s : List ℕ) (st : State) (packet buf : List ℕ) → BeginsWork s st packet buf → requestOf packet .command ≡ Read
       → GoodRead s st (requestOf packet .count) buf (packetStep s st packet buf)
@@ -166,26 +170,28 @@ pub record BeyondIgnored : Type 0 where
   pub left : (s t : List ℕ) (st : State) (packet buf : List ℕ) → AlikeBelowU s t
       → AlikeBelowU (packetStep s st packet buf .image) (packetStep t st packet buf .image)
 
--- "Data: copied, P + 1": each block that a READ moves is a data block of the image, and stands whole in the buffer.
+-- "Data: copied, P + 1"; 02, A6: "READ copies it as data": each block that a READ moves is a data block of the image, marked or not, and stands whole in the
+-- buffer.
 abbrev pub ReadGives : Type 0
 ReadGives =
     (s : List ℕ) (st : State) (packet buf : List ℕ) → BeginsWork s st packet buf → requestOf packet .command ≡ Read
     → (k : ℕ) → k < blocksOf (packetStep s st packet buf)
     → IsRecorded s (st .position + k) (part (packetStep s st packet buf .buf) (k * fieldsOf s .size) (fieldsOf s .size))
 
--- The same from the other side: a READ of one block or more that begins at a data block moves it.
+-- The same from the other side: a READ of one block or more that begins at a data block, marked or not, moves it.
 abbrev pub ReadMoves : Type 0
 ReadMoves =
     (s : List ℕ) (st : State) (packet buf bytes : List ℕ) → BeginsWork s st packet buf → requestOf packet .command ≡ Read
     → IsRecorded s (st .position) bytes → 1 ≤ requestOf packet .count
     → 1 ≤ blocksOf (packetStep s st packet buf)
 
--- "bytes and kind 1 stored": each block that a WRITE counts is recorded data with the buffer's bytes, in the image that it leaves.
+-- "bytes and kind 1 stored"; 02, A6: "WRITE still stores kind 1.": each block that a WRITE counts is recorded data, not marked, with the buffer's bytes, in the
+-- image that it leaves.
 abbrev pub BlocksStored : Type 0
 BlocksStored =
     (s : List ℕ) (st : State) (packet buf : List ℕ) → BeginsWork s st packet buf → requestOf packet .command ≡ Write
     → (j : ℕ) → j < blocksOf (packetStep s st packet buf)
-    → IsRecorded (packetStep s st packet buf .image) (st .position + j) (part buf (j * fieldsOf s .size) (fieldsOf s .size))
+    → IsRecordedAs Data (packetStep s st packet buf .image) (st .position + j) (part buf (j * fieldsOf s .size) (fieldsOf s .size))
 
 -- "10h: N (bytes 2-4) filemarks": each element that a WRITE FILEMARK counts is a filemark below the new U, in the image that it leaves.
 abbrev pub MarksStored : Type 0
@@ -198,15 +204,14 @@ MarksStored =
 abbrev pub NoneStored : Type 0
 NoneStored = (s : List ℕ) (st : State) (packet buf : List ℕ) → blocksOf (packetStep s st packet buf) ≡ 0 → packetStep s st packet buf .image ≡ s
 
--- "A written block reads back the same until something is stored at or before its place": block j of a WRITE is element P + j with its bytes through
--- every later history, and every READ that moves it gives these bytes.
-abbrev pub ReadsBack : Type 0
-ReadsBack =
-    (s : List ℕ) (st : State) (packet buf : List ℕ) → BeginsWork s st packet buf → requestOf packet .command ≡ Write
-    → (j : ℕ) → j < blocksOf (packetStep s st packet buf)
-    → (s' : List ℕ) (st' : State) → Later (st .position + j) (packetStep s st packet buf .image) (packetStep s st packet buf .state) s' st'
-    → IsRecorded s' (st .position + j) (part buf (j * fieldsOf s .size) (fieldsOf s .size))
-    × EveryReadGives s' st' (st .position + j) (part buf (j * fieldsOf s .size) (fieldsOf s .size))
+-- "A written block reads back the same until something is stored at or before its place": block j of a WRITE is element P + j, of kind 1 with its bytes,
+-- through every later history, and every READ that moves it gives these bytes. 02, A6: a marked block of the image stays so too, mark and bytes.
+pub record ReadsBack : Type 0 where
+  pub written : (s : List ℕ) (st : State) (packet buf : List ℕ) → BeginsWork s st packet buf → requestOf packet .command ≡ Write
+      → (j : ℕ) → j < blocksOf (packetStep s st packet buf)
+      → ReadsBackAs Data (st .position + j) (part buf (j * fieldsOf s .size) (fieldsOf s .size))
+      (packetStep s st packet buf .image) (packetStep s st packet buf .state)
+  pub marked : (i : ℕ) (bytes s : List ℕ) (st : State) → IsRecordedAs Marked s i bytes → ReadsBackAs Marked i bytes s st
 
 -- 01: "A small set is proved together as one table (*)"
 abbrev pub PlatesPrint : Type 0
@@ -220,9 +225,14 @@ EndOfDataPlates = allAgree endPlates ≡ true
 abbrev pub SpeedPlates : Type 0
 SpeedPlates = SpeedPlatesOf streamDevice (image 0) freshState changedState
 
--- What is asked above can be so: a READ, a WRITE and a WRITE FILEMARK that begin and move an element, a READ that meets an unreadable block.
+-- 02, A6: READ, WRITE and SPACE over marked blocks.
+abbrev pub MarkedPlates : Type 0
+MarkedPlates = (allMarkedAgree streamDevice standing markedPlates ≡ true) × (allMarkedAgree streamDevice standing markedSpaces ≡ true)
+
+-- What is asked above can be so: a READ, a WRITE and a WRITE FILEMARK that begin and move an element, a READ that meets an unreadable block, a marked block.
 pub record WorkBegins : Type 0 where
   pub read : BeginsAndMoves (standing 0) readTwo
   pub write : BeginsAndMoves (standing 3) (sent 0x0a 1 0 0 1 0 0)
   pub filemarks : BeginsAndMoves (standing 3) (sent 0x10 0 0 0 1 0 0)
   pub unreadable : packetStep unreadableAtTwo (standing 2) readTwo (replicate 1024 9) .state .sense ≡ unreadableBlock 2
+  pub marked : IsRecordedAs Marked markedImage 0 (replicate 512 7)

@@ -8,11 +8,11 @@ use lib.ListN.{length, getD}
 use Rattle.numbers.specs.Choice.{if_then_else_, _≡ᵇ_}
 use Rattle.numbers.specs.Over.{part}
 use Rattle.image.specs.declared.elements.Kind.{Kind}
-use Rattle.image.specs.declared.elements.Kind.the-variants.{Filemark, Unreadable}
+use Rattle.image.specs.declared.elements.Kind.the-variants.{Data, Filemark, Unreadable}
 use Rattle.image.specs.declared.header.Header.{Header}
 use Rattle.image.specs.Elements.{recordedField, kindAt}
 use Rattle.image.specs.Header.{fieldsOf, keepsHeaderRules, withRecorded}
-use Rattle.image.specs.Sameness.{IsBlock, SameElement, Alike, Outside}
+use Rattle.image.specs.Sameness.{IsBlock, IsBlockOf, SameElement, Alike, Outside}
 use Rattle.opcodes.specs.declared.Command.{Command}
 use Rattle.opcodes.specs.declared.Command.the-variants.{Unknown, TestUnitReady, Rewind, RequestSense, Read, Write, WriteFilemarks, Space, Inquiry}
 use Rattle.opcodes.specs.declared.Command.the-variants.{ModeSelect, ModeSense, LoadUnload, Locate, ReadPosition}
@@ -21,7 +21,7 @@ use Rattle.packet_state.specs.declared.state.State.{State}
 use Rattle.packet_state.specs.Senses.{noSense, filemarkDetected, unreadableBlock, endOfData, volumeOverflow, earlyWarning}
 use Rattle.packet_state.specs.States.{atPlace, withSense}
 use Rattle.packet_parts.specs.Answers.{Left, goodStatus, checkCondition}
-use Rattle.packet_laws.specs.Words.{numberOf, statusOf, blocksOf, bytesOf, gives, Begins}
+use Rattle.packet_laws.specs.Words.{numberOf, statusOf, blocksOf, bytesOf, markedOf, markedAmong, gives, Begins}
 use Rattle.stream_parts.specs.Requests.{requestOf}
 use Rattle.stream_parts.specs.Warning.{pastWarning}
 use Rattle.stream.specs.Packet.{streamDevice, packetStep}
@@ -63,6 +63,10 @@ stores packet = storesOn (requestOf packet .command)
 -- element i is recorded data with these bytes
 abbrev pub IsRecorded : List ℕ → ℕ → List ℕ → Type 0
 IsRecorded s i bytes = IsBlock (fieldsOf s .recorded) s i bytes
+
+-- the same, of this one of the kinds that hold data
+abbrev pub IsRecordedAs : Kind → List ℕ → ℕ → List ℕ → Type 0
+IsRecordedAs kind s i bytes = IsBlockOf kind (fieldsOf s .recorded) s i bytes
 
 -- element i is below U and of this kind
 abbrev pub IsElement : List ℕ → ℕ → Kind → Type 0
@@ -142,13 +146,14 @@ pub record Kept (s : List ℕ) (st : State) (packet buf : List ℕ) (x : Left St
 
 -- ---- what READ, WRITE and WRITE FILEMARK owe
 
--- all that 01 and 02, A3 ask of a READ of N blocks, of any drive: x is what it leaves
+-- all that 01 and 02, A3 and A6 ask of a READ of N blocks, of any drive: x is what it leaves
 pub record GoodRead (s : List ℕ) (st : State) (n : ℕ) (buf : List ℕ) (x : Left State) : Type 0 where
   pub accepted : numberOf x ≡ 0
-  -- status, sense and new P go by the blocks, which are data; the bytes by the blocks
+  -- status, sense and new P go by the blocks, which are data; the bytes by the blocks, and those marked by their kinds
   pub ends : ReadEnds s (st .position) n x
   pub counts : CountsData s (st .position) x
   pub bytes : bytesOf x ≡ blocksOf x * fieldsOf s .size
+  pub marked : markedOf x ≡ markedAmong (part s (fieldsOf s .kinds + st .position) (blocksOf x))
   -- the rest stays
   pub state-kept : x .state ≡ withSense (atPlace st (x .state .position)) (x .state .sense)
   pub image-kept : x .image ≡ s
@@ -164,6 +169,7 @@ pub record GoodWrite (Holds : List ℕ → ℕ → Type 0) (each : ℕ) (s : Lis
   pub stored : (j : ℕ) → j < blocksOf x → Holds (x .image) j
   pub recorded : 1 ≤ blocksOf x → fieldsOf (x .image) ≡ withRecorded (fieldsOf s) (x .state .position)
   pub bytes : bytesOf x ≡ blocksOf x * each
+  pub no-marked : markedOf x ≡ 0
   -- the rest stays
   pub state-kept : x .state ≡ withSense (atPlace st (x .state .position)) (x .state .sense)
   pub image-good : keepsHeaderRules (x .image) ≡ true
@@ -173,10 +179,10 @@ pub record GoodWrite (Holds : List ℕ → ℕ → Type 0) (each : ℕ) (s : Lis
   pub image-beyond : (m : ℕ) → Untouched (fieldsOf s) st x m → getD (x .image) m 0 ≡ getD s m 0
   pub buf-kept : x .buf ≡ buf
 
--- WRITE: block j of the buffer, as data; WRITE FILEMARK: a filemark
+-- WRITE: block j of the buffer, as data, of kind 1; WRITE FILEMARK: a filemark
 abbrev pub BlocksGood : List ℕ → State → ℕ → List ℕ → Left State → Type 0
 BlocksGood s st n buf x =
-    GoodWrite (λ t j. IsRecorded t (st .position + j) (part buf (j * fieldsOf s .size) (fieldsOf s .size))) (fieldsOf s .size) s st n buf x
+    GoodWrite (λ t j. IsRecordedAs Data t (st .position + j) (part buf (j * fieldsOf s .size) (fieldsOf s .size))) (fieldsOf s .size) s st n buf x
 
 abbrev pub MarksGood : List ℕ → State → ℕ → List ℕ → Left State → Type 0
 MarksGood s st n buf x = GoodWrite (λ t j. IsElement t (st .position + j) Filemark) 0 s st n buf x

@@ -4,5 +4,6 @@ pub mod WriteLaws
 pub mod SpaceLaws
 pub mod EndLaws
 pub mod LaidLaws
+pub mod MarkedLaws
 pub mod SameLaws
 pub mod StopLaws

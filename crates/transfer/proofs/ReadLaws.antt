@@ -178,11 +178,11 @@ module _ (s : List ℕ) (size kinds blocks end : ℕ) where
   data-moved (copies n off p buf X h e r) zero l = let y : p + 0 ≡ p = omega arith in rw y (h, e)
   data-moved (copies n off p buf X h e r) (suc j) l = let y : p + suc j ≡ p + 1 + j = omega arith in rw y (data-moved r j (omega arith))
 
-  -- so no more blocks than the end's place
-  pub few-moved : {n off p : ℕ} {buf : List ℕ} {X : Reading} → ReadRun n off p buf X → n - X .moved .left ≤ end
-  few-moved {n = n} {X = X} r = by (n - X .moved .left) refl
+  -- so none of them beyond the end
+  pub few-moved : {n off p : ℕ} {buf : List ℕ} {X : Reading} → ReadRun n off p buf X → p ≤ end → p + (n - X .moved .left) ≤ end
+  few-moved {n = n} {p = p} {X = X} r l = by (n - X .moved .left) refl
     where
-      by : (k : ℕ) → n - X .moved .left ≡ k → k ≤ end
+      by : (k : ℕ) → n - X .moved .left ≡ k → p + k ≤ end
       by zero e = omega arith
       by (suc j) e = omega (arith, data-moved r j (omega arith) .0)
 
@@ -192,6 +192,9 @@ module _ (s : List ℕ) (size kinds blocks end : ℕ) where
 
     pub read-left : readFrom s size kinds blocks end n off p buf .moved .left ≤ n
     read-left = read-ended .less
+
+    pub read-few : p ≤ end → p + (n - readFrom s size kinds blocks end n off p buf .moved .left) ≤ end
+    read-few = few-moved (read-run n off p buf)
 
     pub read-place : p ≤ end → readFrom s size kinds blocks end n off p buf .moved .place ≤ end
     read-place = run-place (read-run n off p buf)

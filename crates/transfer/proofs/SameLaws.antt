@@ -22,6 +22,7 @@ use Rattle.image.proofs.StoreLaws.{OneLaid, mark-here, block-kind, block-here}
 use Rattle.transfer.specs.declared.Stop.{Stop}
 use Rattle.transfer.specs.declared.Stop.the-variants.{Full, AtEnd}
 use Rattle.transfer.specs.Moving.{halts}
+use Rattle.transfer.specs.Marked.{markedFrom}
 use Rattle.transfer.specs.Reading.{readFrom}
 use Rattle.transfer.specs.Spacing.{blocksOn, blocksBack, marksLeft, marksOn, marksBack}
 use Rattle.transfer.specs.Writing.{Writing, writes, layFrom, blockOf, markOf}
@@ -47,6 +48,11 @@ module _ (h : Header) (end : ℕ) (s t : List ℕ) (alike : (i : ℕ) → i < en
       rw (e .kind)
       (copied-same _ _ _ (holdsData (kindAt s (h .kinds) p)) (λ d.
       rw (e .bytes d, read-same n (off + h .size) (p + 1) (over buf off (blockAt s (h .size) (h .blocks) p))))))
+
+  pub marked-same : (n p : ℕ) → p + n ≤ end → markedFrom t (h .kinds) n p ≡ markedFrom s (h .kinds) n p
+  unfolding markedFrom
+  marked-same zero p l = refl
+  marked-same (suc n) p l = rw (alike p (omega arith) .kind, marked-same n (p + 1) (omega arith))
 
   pub blocks-on-same : (n p : ℕ) → blocksOn t (h .kinds) end n p ≡ blocksOn s (h .kinds) end n p
   unfolding blocksOn

@@ -11,7 +11,7 @@ use borrow.Author.Tests.{le-leb, lt-leb, ne-eqb, leb-true, leb-false}
 use lib.Dec.{leb, eqb}
 use Rattle.numbers.specs.Choice.{if_then_else_}
 use Rattle.image.specs.declared.elements.Kind.{Kind}
-use Rattle.image.specs.declared.elements.Kind.the-variants.{Data, Filemark, Unreadable}
+use Rattle.image.specs.declared.elements.Kind.the-variants.{Data, Filemark, Unreadable, Marked}
 use Rattle.image.specs.Elements.{isFilemark, kindAt}
 use Rattle.transfer.specs.declared.Moved.{Moved}
 use Rattle.transfer.specs.declared.Stop.the-variants.{Full, AtFilemark, AtEnd, AtBeginning}
@@ -121,6 +121,7 @@ marks-less : (kind : Kind) (n : ℕ) → marksLeft kind n ≤ n
 marks-less Data n = le-refl n
 marks-less Filemark n = omega arith
 marks-less Unreadable n = le-refl n
+marks-less Marked n = le-refl n
 
 module _ (s : List ℕ) (kinds : ℕ) where
   -- how SPACE over n blocks goes on, step by step, to its outcome

@@ -6,7 +6,7 @@ use mathlib.Core.Bool.{false, false≢true}
 use mathlib.Core.List.{List}
 use mathlib.Core.Path.{_≡_, refl, sym, ap}
 use Rattle.image.specs.declared.elements.Kind.{Kind}
-use Rattle.image.specs.declared.elements.Kind.the-variants.{Data, Filemark, Unreadable}
+use Rattle.image.specs.declared.elements.Kind.the-variants.{Data, Filemark, Unreadable, Marked}
 use Rattle.image.specs.Elements.{holdsData, kindAt}
 use Rattle.transfer.specs.declared.Moved.{Moved}
 use Rattle.transfer.specs.declared.Stop.the-variants.{Full, AtFilemark, AtBadBlock, AtEnd}
@@ -38,6 +38,7 @@ module _ (s : List ℕ) (kinds end : ℕ) where
   by-kind n p Unreadable l f e =
       let y : p + 0 ≡ p = omega arith in
       at-bad-block 0 refl (omega arith) (omega arith) (omega arith) (omega arith) (rw y e)
+  by-kind n p Marked l f e = absurd (false≢true (sym f))
 
   -- one block more before the rest
   one-more : (n p : ℕ) (m : Moved) → ReadStops (p + 1) n m → ReadStops p (suc n) m

@@ -1,4 +1,5 @@
 pub mod Moving
 pub mod Reading
+pub mod Marked
 pub mod Spacing
 pub mod Writing

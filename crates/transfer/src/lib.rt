@@ -2,6 +2,7 @@
 ghost use mathlib.Core.Path.{_≡_};
 ghost use Rattle.transfer.specs.Moving.{halts};
 
+pub mod marked; // marked.rt: how many of the blocks copied were marked
 pub mod reading; // reading.rt: READ
 pub mod spacing; // spacing.rt: SPACE over blocks and filemarks, both ways
 pub mod writing; // writing.rt: WRITE and WRITE FILEMARK

@@ -3,7 +3,7 @@
 use tapecard::bytes::opcode::*;
 use tapecard::bytes::{length, long_at, page, put_long, put_word, word_at};
 
-use crate::images::{AllowedEdit, Shape, damage_image};
+use crate::images::{AllowedEdit, OtherRecording, Shape, damage_image};
 use crate::packet_sessions::{self, allocation, buffer_around, cut, put_speed_list};
 use crate::{Difference, FloppyBench, Random};
 
@@ -70,7 +70,7 @@ fn run_session(
 }
 
 fn make_call(bench: &mut FloppyBench, random: &mut Random) -> Result<(), Box<Difference>> {
-    match random.weighted(&[850, 15, 20, 15, 5, 15, 30, 30, 20]) {
+    match random.weighted(&[770, 15, 20, 15, 5, 15, 30, 30, 20, 80]) {
         0 => send_good(bench, random),
         1 => send_cut(bench, random),
         2 => send_random(bench, random),
@@ -79,10 +79,11 @@ fn make_call(bench: &mut FloppyBench, random: &mut Random) -> Result<(), Box<Dif
         5 => swap_cartridge(bench, random),
         6 => with_damaged_record(bench, random),
         7 => with_damaged_image(bench, random),
-        _ => {
+        8 => {
             edit_full_image(bench, random);
             send_good(bench, random)
         }
+        _ => read_other_recording(bench, random),
     }
 }
 
@@ -201,6 +202,25 @@ fn edit_full_image(bench: &mut FloppyBench, random: &mut Random) {
     let place = Place::of(bench);
     let edit = AllowedEdit::any(random, place.capacity, place.kinds_at);
     bench.edit_image(|image| edit.make(image));
+}
+
+/// A READ from any block of a cartridge on which no WRITE of this session has made the kinds alike.
+fn read_other_recording(
+    bench: &mut FloppyBench,
+    random: &mut Random,
+) -> Result<(), Box<Difference>> {
+    let place = Place::of(bench);
+    let edit = OtherRecording::any(random, place.capacity, place.capacity, place.kinds_at);
+    bench.edit_image(|image| edit.make(image));
+    let mut record = *bench.record();
+    let from = random.below(place.product.max(1).into());
+    put_long(&mut record, 0, from as u32);
+    bench.set_record(&record);
+    let mut packet = [READ, 1, 0, 0, 0, 0, 0, 0, 0, 0, 0, 0];
+    packet[4] = random.between(1, 6) as u8;
+    let data = buffer_for(random, &packet, &place);
+    bench.send(&packet, &data)?;
+    Ok(())
 }
 
 /// What a session needs to know to make packets that go far.

@@ -5,7 +5,7 @@ use std::panic::{AssertUnwindSafe, catch_unwind};
 
 use model::Bug;
 use model::packet::Ending;
-use tapecard::bytes::opcode;
+use tapecard::bytes::{long_at, opcode};
 
 use crate::{Difference, Guarded, Origin};
 
@@ -44,6 +44,26 @@ impl Side {
     }
 }
 
+/// Whether the blocks that a READ copied were marked.
+#[derive(Clone, Copy, Debug, PartialEq, Eq, PartialOrd, Ord)]
+pub enum Marked {
+    Not,
+    Partly,
+    Wholly,
+}
+
+impl Marked {
+    /// None where the answer tells of no block.
+    fn in_answer(answer: &[u8; 16]) -> Option<Marked> {
+        match (long_at(answer, 4), long_at(answer, 12)) {
+            (0, _) => None,
+            (_, 0) => Some(Marked::Not),
+            (copied, marked) if marked < copied => Some(Marked::Partly),
+            _ => Some(Marked::Wholly),
+        }
+    }
+}
+
 /// What packets have shown so far.
 #[derive(Default)]
 pub struct PacketSeen {
@@ -59,6 +79,8 @@ pub struct PacketSeen {
     pub numbers: BTreeSet<(&'static str, u8)>,
     /// First bytes of packets that passed refusals and attention.
     pub opcodes: BTreeSet<u8>,
+    /// READs that copied blocks, by their ending and by whether the blocks were marked.
+    pub reads: BTreeMap<(Ending, Marked), u64>,
 }
 
 /// A session over one image, of a device whose record has `RECORD` bytes.
@@ -266,6 +288,9 @@ impl<const RECORD: usize> ImageBench<RECORD> {
         }
         let key = (opcode, variant_of(packet), ending);
         *self.seen.endings.entry(key).or_default() += 1;
+        if let (opcode::READ, Some(marked)) = (opcode, Marked::in_answer(&answer)) {
+            *self.seen.reads.entry((ending, marked)).or_default() += 1;
+        }
     }
 }
 

@@ -1,6 +1,6 @@
 //! Images for sessions: good ones of every shape, and damage to their headers.
 
-use tapecard::bytes::{long_at, put_long, put_word, word_at};
+use tapecard::bytes::{kind, long_at, put_long, put_word, word_at};
 
 use crate::Random;
 
@@ -69,15 +69,23 @@ impl Shape {
         image[20] = u8::from(self.protected);
         image[21] = random.byte();
         put_word(&mut image, 22, self.warning);
-        let odd_ones = random.pick(&[2, 10, 40]);
-        for kind in &mut image[kinds_at..kinds_at + self.recorded as usize] {
-            *kind = if random.percent(odd_ones) {
-                random.pick(&[2, 2, 2, 2, 0, 3, 4, 5, 0xFF])
-            } else {
-                1
-            };
-        }
+        put_kinds(random, &mut image[kinds_at..kinds_at + capacity]);
         image
+    }
+}
+
+/// Data mostly, none, some or all of it marked; those above U have kinds too, which mean nothing.
+fn put_kinds(random: &mut Random, kinds: &mut [u8]) {
+    let marked = random.pick(&[0, 30, 50, 70, 100]);
+    let odd_ones = random.pick(&[2, 10, 40]);
+    for element in kinds {
+        *element = if random.percent(odd_ones) {
+            random.pick(&[2, 2, 2, 2, 0, 3, 5, 0xFF])
+        } else if random.percent(marked) {
+            kind::MARKED
+        } else {
+            kind::DATA
+        };
     }
 }
 
@@ -171,8 +179,33 @@ impl AllowedEdit {
             1 => put_word(image, 22, (number % u64::from(self.capacity + 1)) as u16),
             _ => {
                 let element = (number % u64::from(self.capacity)) as u32;
-                image[(self.kinds_at + element) as usize] = (number >> 32) as u8 % 4;
+                image[(self.kinds_at + element) as usize] = (number >> 32) as u8 % 6;
             }
         }
+    }
+}
+
+/// Other kinds throughout and this U, as if the cartridge had been recorded elsewhere.
+pub struct OtherRecording {
+    seed: u64,
+    recorded: u32,
+    capacity: u32,
+    kinds_at: u32,
+}
+
+impl OtherRecording {
+    pub fn any(random: &mut Random, recorded: u32, capacity: u32, kinds_at: u32) -> OtherRecording {
+        OtherRecording {
+            seed: random.number(),
+            recorded,
+            capacity,
+            kinds_at,
+        }
+    }
+
+    pub fn make(&self, image: &mut [u8]) {
+        put_long(image, 8, self.recorded);
+        let kinds = &mut image[self.kinds_at as usize..][..self.capacity as usize];
+        put_kinds(&mut Random::new(self.seed), kinds);
     }
 }

@@ -24,7 +24,7 @@ mod settings;
 
 pub use floppy_bench::FloppyBench;
 pub use guarded::Guarded;
-pub use image_bench::{ImageBench, PacketSeen};
+pub use image_bench::{ImageBench, Marked, PacketSeen};
 pub use images::Shape;
 pub use origin::{Difference, Origin, agree, hex};
 pub use packet_bench::PacketBench;

@@ -3,7 +3,7 @@
 use tapecard::bytes::opcode::*;
 use tapecard::bytes::{count_at, length, long_at, page, put_count, put_long, put_word, word_at};
 
-use crate::images::{AllowedEdit, Shape, damage_image};
+use crate::images::{AllowedEdit, OtherRecording, Shape, damage_image};
 use crate::{Difference, PacketBench, Random};
 
 /// Opcodes with the weight that each has among good packets.
@@ -63,7 +63,7 @@ fn run_session(
 }
 
 fn make_call(bench: &mut PacketBench, random: &mut Random) -> Result<(), Box<Difference>> {
-    match random.weighted(&[890, 20, 20, 10, 5, 15, 20, 20]) {
+    match random.weighted(&[810, 20, 20, 10, 5, 15, 20, 20, 80]) {
         0 => send_good(bench, random),
         1 => send_cut(bench, random),
         2 => send_random(bench, random),
@@ -77,10 +77,11 @@ fn make_call(bench: &mut PacketBench, random: &mut Random) -> Result<(), Box<Dif
         }
         5 => with_damaged_record(bench, random),
         6 => with_damaged_image(bench, random),
-        _ => {
+        7 => {
             edit_good_image(bench, random);
             send_good(bench, random)
         }
+        _ => read_other_recording(bench, random),
     }
 }
 
@@ -173,6 +174,26 @@ fn edit_good_image(bench: &mut PacketBench, random: &mut Random) {
     let place = Place::of(bench);
     let edit = AllowedEdit::any(random, place.capacity, place.kinds_at);
     bench.edit_image(|image| edit.make(image));
+}
+
+/// A READ from any place of a cartridge on which no WRITE of this session has made the kinds alike.
+fn read_other_recording(
+    bench: &mut PacketBench,
+    random: &mut Random,
+) -> Result<(), Box<Difference>> {
+    let place = Place::of(bench);
+    let recorded = random.between(place.capacity.min(2).into(), place.capacity.into()) as u32;
+    let edit = OtherRecording::any(random, recorded, place.capacity, place.kinds_at);
+    bench.edit_image(|image| edit.make(image));
+    let mut record = *bench.record();
+    let from = random.below(recorded.into());
+    put_long(&mut record, 0, from as u32);
+    bench.set_record(&record);
+    let mut packet = [READ, 1, 0, 0, 0, 0, 0, 0, 0, 0, 0, 0];
+    put_count(&mut packet, 2, random.between(1, 6) as u32);
+    let data = buffer_for(random, &packet, &place);
+    bench.send(&packet, &data)?;
+    Ok(())
 }
 
 /// What a session needs to know to make packets that go far.

@@ -174,6 +174,57 @@ fn a_locate_past_early_warning() {
     assert_eq!(sense_bytes(&mut bench), plate);
 }
 
+/// How many of the blocks copied were marked.
+fn marked<const RECORD: usize>(bench: &ImageBench<RECORD>) -> u32 {
+    long_at(bench.answer(), 12)
+}
+
+fn set_kinds<const RECORD: usize>(bench: &mut ImageBench<RECORD>, kinds: [u8; 4]) {
+    bench.edit_image(|image| image[32..36].copy_from_slice(&kinds));
+}
+
+/// 02, A6: "READ copies it as data .. and a READ's answer also says how many of the blocks copied were marked." U is 3: the last kind
+/// means nothing.
+#[test]
+fn reads_of_marked_blocks() {
+    for (kinds, from, ended, copied, of_these_marked, at) in [
+        ([4, 1, 4, 4], 0, 0, 2, 1, 2),
+        ([1, 1, 4, 4], 0, 0, 2, 0, 2),
+        ([4, 2, 4, 4], 0, 2, 1, 1, 2),
+        ([4, 7, 4, 4], 0, 2, 1, 1, 2),
+        ([4, 2, 4, 4], 1, 2, 0, 0, 2),
+        ([4, 1, 4, 4], 2, 2, 1, 1, 3),
+        ([4, 1, 4, 4], 3, 2, 0, 0, 3),
+    ] {
+        let mut bench = packet_bench(from, 0);
+        set_kinds(&mut bench, kinds);
+        send(&mut bench, opcode::READ, 1, 2);
+        assert_eq!((status(&bench), position(&bench)), (ended, at));
+        assert_eq!((blocks(&bench), marked(&bench)), (copied, of_these_marked));
+        send(&mut bench, opcode::REQUEST_SENSE, 0, 20);
+        assert_eq!(marked(&bench), 0);
+    }
+}
+
+/// 02, A6: "SPACE counts it as a block". "WRITE still stores kind 1."
+#[test]
+fn spaces_and_writes_over_marked_blocks() {
+    let mut bench = packet_bench(0, 0);
+    set_kinds(&mut bench, [4, 4, 2, 4]);
+    send(&mut bench, opcode::SPACE, space::BLOCKS, 2);
+    assert_eq!((status(&bench), position(&bench)), (0, 2));
+    send(&mut bench, opcode::SPACE, space::BLOCKS, 0xFF_FFFE);
+    assert_eq!((status(&bench), position(&bench)), (0, 0));
+    send(&mut bench, opcode::SPACE, space::FILEMARKS, 1);
+    assert_eq!((status(&bench), position(&bench)), (0, 3));
+    send(&mut bench, opcode::REWIND, 0, 0);
+    send(&mut bench, opcode::WRITE, 1, 1);
+    assert_eq!((blocks(&bench), marked(&bench)), (1, 0));
+    send(&mut bench, opcode::WRITE_FILEMARK, 0, 1);
+    assert_eq!((blocks(&bench), marked(&bench)), (1, 0));
+    assert_eq!(bench.image()[32..36], [1, 2, 2, 4]);
+}
+
 #[test]
 fn cut_packets() {
     let mut bench = packet_bench(0, 0);
@@ -237,6 +288,31 @@ fn a_floppy_read_is_one_short_at_an_unreadable_block() {
         0xF0, 0, 8, 0, 0, 0, 2, 0x0C, 0, 0, 0, 0, 0, 5, 0, 0, 0, 0, 0, 0,
     ];
     assert_eq!(sense_bytes(&mut bench), plate, "W plays no part (02, A1)");
+}
+
+/// 02, A6, over kinds 4 7 1 4: the block in error is left out of the residue (A1), and of the count.
+#[test]
+fn floppy_reads_of_marked_blocks() {
+    let mut bench = floppy_bench(0);
+    set_kinds(&mut bench, [4, 7, 1, 4]);
+    send(&mut bench, opcode::READ, 1, 2);
+    assert_eq!((blocks(&bench), marked(&bench)), (1, 1));
+    assert_eq!((residue(&bench), triple(&bench)), (0, [3, 0x11, 0]));
+    send(&mut bench, opcode::READ, 1, 2);
+    assert_eq!((status(&bench), position(&bench)), (0, 4));
+    assert_eq!((blocks(&bench), marked(&bench)), (2, 1));
+}
+
+/// 02, A6: "WRITE still stores kind 1.", with WDAM set by a list.
+#[test]
+fn a_floppy_write_with_wdam_marks_nothing() {
+    let mut bench = floppy_bench(0);
+    set_kinds(&mut bench, [4, 1, 4, 4]);
+    send_list(&mut bench, [1, 0, 4, 0, 1]);
+    assert_eq!(bench.record()[19], 0x80);
+    send(&mut bench, opcode::WRITE, 1, 2);
+    assert_eq!((blocks(&bench), marked(&bench)), (2, 0));
+    assert_eq!(bench.image()[32..36], [1, 1, 4, 4]);
 }
 
 #[test]

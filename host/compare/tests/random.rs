@@ -3,7 +3,8 @@
 use std::collections::BTreeSet;
 use std::time::Instant;
 
-use compare::{FloppyBench, PacketBench, PacketSeen, PulseBench, PulseCall, PulseSeen, Random};
+use compare::{FloppyBench, Marked, PacketBench, PacketSeen};
+use compare::{PulseBench, PulseCall, PulseSeen, Random};
 use compare::{calls_wanted, floppy_sessions, packet_sessions, pulse_sessions, say, seed_wanted};
 use model::Bug;
 use model::floppy;
@@ -114,6 +115,29 @@ fn packets_went_everywhere(seen: &PacketSeen) {
     assert_eq!(seen.triples, triples());
     ended_every_way(seen, &wanted_endings());
     met_the_end_of_data_often(seen);
+    read_marked_blocks_often(seen, &READ_ENDINGS);
+}
+
+/// How a READ of the stream device ends that has copied blocks.
+const READ_ENDINGS: [Ending; 5] = [
+    Ending::Good,
+    Ending::AtFilemark,
+    Ending::AtUnreadable,
+    Ending::AtEndOfData,
+    Ending::AtEndOfDataPastWarning,
+];
+
+/// Whichever way a READ ended, the blocks that it copied were not, partly and wholly marked, each once in ten thousand calls.
+fn read_marked_blocks_often(seen: &PacketSeen, endings: &[Ending]) {
+    for &ending in endings {
+        for marked in [Marked::Not, Marked::Partly, Marked::Wholly] {
+            let times = seen.reads.get(&(ending, marked)).copied();
+            assert!(
+                times.is_some_and(|times| times * 10_000 >= seen.calls),
+                "a READ ended with {ending:?}, its blocks {marked:?} marked, {times:?} times"
+            );
+        }
+    }
 }
 
 /// Before and past early warning alike, each once in a thousand calls: the few that damaged headers bring about would not do.
@@ -250,7 +274,11 @@ fn floppy_packets_went_everywhere(seen: &PacketSeen) {
     }
     assert_eq!(seen.triples, triples);
     ended_every_way(seen, &wanted_floppy_endings());
+    read_marked_blocks_often(seen, &FLOPPY_READ_ENDINGS);
 }
+
+/// How a READ of the floppy device ends that has copied blocks.
+const FLOPPY_READ_ENDINGS: [Ending; 3] = [Ending::Good, Ending::AtUnreadable, Ending::AtEndOfData];
 
 /// The endings that each command of the floppy device has of its own, by opcode and variant.
 const OWN_FLOPPY_ENDINGS: [(u8, u8, &[Ending]); 19] = {

@@ -14,8 +14,38 @@ pub enum Bug {
     FreshIsAutomatic,
     /// Changing the cartridge gives the speed of a fresh record.
     ChangeResetsSpeed,
+    /// A marked block is unreadable, as it was before A6 of 02.
+    MarkedIsUnreadable,
+    /// Every kind above 4 is marked too.
+    KindsAboveFourAreMarked,
+    /// A READ passes over a marked block and does not copy it.
+    ReadSkipsMarked,
+    /// A READ's answer counts every block copied as marked.
+    MarkedCountsPlain,
+    /// A READ's answer counts the marked blocks before it too.
+    MarkedCountsBefore,
+    /// A READ's answer counts the marked blocks asked for, also those behind the stop.
+    MarkedCountsAsked,
+    /// A READ's answer counts the element that stopped it as marked.
+    MarkedCountsStop,
+    /// A WRITE over a marked block leaves its mark.
+    WriteKeepsMark,
+    /// A WRITE's answer shows the marked blocks ahead of it.
+    WriteShowsMarked,
+    /// A READ that is refused for its buffer shows the marked blocks ahead of it.
+    RefusalShowsMarked,
 
     // Packet drive.
+    /// A WRITE FILEMARK over a marked block leaves it.
+    FilemarkKeepsMark,
+    /// SPACE over blocks does not count a marked one.
+    SpaceSkipsMarked,
+    /// SPACE over blocks is stopped by a marked one.
+    SpaceStopsAtMarked,
+    /// SPACE over filemarks counts a marked block.
+    SpaceTakesMarkedForFilemark,
+    /// A SPACE's answer shows the marked blocks ahead of it.
+    SpaceShowsMarked,
     /// A READ that stops at a filemark counts it as a block moved.
     ResidueCountsFilemark,
     /// A write in the middle keeps U.
@@ -72,6 +102,8 @@ pub enum Bug {
     KindTwoIsFilemark,
     /// A WRITE sets U.
     FloppyWriteSetsRecorded,
+    /// A WRITE stores marked blocks where WDAM is set.
+    WriteFollowsWdam,
     /// A WRITE tells early warning.
     FloppyWarnsEarly,
     /// The end of data shows EOM where U > C - W.
@@ -158,9 +190,24 @@ pub enum Bug {
 
 impl Bug {
     /// Mistakes in the packet drive.
-    pub const PACKET: [Bug; 26] = [
+    pub const PACKET: [Bug; 41] = [
         Bug::FreshIsAutomatic,
         Bug::ChangeResetsSpeed,
+        Bug::MarkedIsUnreadable,
+        Bug::KindsAboveFourAreMarked,
+        Bug::ReadSkipsMarked,
+        Bug::MarkedCountsPlain,
+        Bug::MarkedCountsBefore,
+        Bug::MarkedCountsAsked,
+        Bug::MarkedCountsStop,
+        Bug::WriteKeepsMark,
+        Bug::WriteShowsMarked,
+        Bug::RefusalShowsMarked,
+        Bug::FilemarkKeepsMark,
+        Bug::SpaceSkipsMarked,
+        Bug::SpaceStopsAtMarked,
+        Bug::SpaceTakesMarkedForFilemark,
+        Bug::SpaceShowsMarked,
         Bug::ResidueCountsFilemark,
         Bug::WriteKeepsRecorded,
         Bug::AttentionAfterOpcode,
@@ -188,12 +235,23 @@ impl Bug {
     ];
 
     /// Mistakes in the floppy tape device.
-    pub const FLOPPY: [Bug; 25] = [
+    pub const FLOPPY: [Bug; 36] = [
         Bug::FreshIsAutomatic,
         Bug::ChangeResetsSpeed,
+        Bug::MarkedIsUnreadable,
+        Bug::KindsAboveFourAreMarked,
+        Bug::ReadSkipsMarked,
+        Bug::MarkedCountsPlain,
+        Bug::MarkedCountsBefore,
+        Bug::MarkedCountsAsked,
+        Bug::MarkedCountsStop,
+        Bug::WriteKeepsMark,
+        Bug::WriteShowsMarked,
+        Bug::RefusalShowsMarked,
         Bug::BlockInErrorInResidue,
         Bug::KindTwoIsFilemark,
         Bug::FloppyWriteSetsRecorded,
+        Bug::WriteFollowsWdam,
         Bug::FloppyWarnsEarly,
         Bug::FloppyEndShowsEom,
         Bug::TransfersEndAtCapacity,

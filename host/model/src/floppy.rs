@@ -5,6 +5,7 @@ use crate::bug::{Bug, TWO_TO_THE_32};
 use crate::bytes::{long_at, put_word, triple_at, word_at};
 use crate::commands::*;
 use crate::image::{Header, Kind};
+use crate::reading::{MarksAhead, Reading};
 use crate::record::State;
 use crate::reply::*;
 
@@ -32,8 +33,10 @@ const PARAMETERS_LENGTH_BYTE: u8 = 0x0E;
 const PARAMETERS_LENGTH: usize = 16;
 const WITH_PARAMETERS: usize = MODE_HEADER_LENGTH + PARAMETERS_LENGTH;
 const WITH_CAPABILITIES: usize = MODE_HEADER_LENGTH + CAPABILITIES_LENGTH;
+/// WDAM, write deleted address marks (004).
+const WDAM: u8 = 0x80;
 /// WDAM, RM and FW; "others reserved".
-const FLAGS: u8 = 0x80 + 0x40 + 0x20;
+const FLAGS: u8 = WDAM + 0x40 + 0x20;
 
 /// A fresh record over this image; the answer's bytes.
 pub fn fresh(record: &mut [u8; 32], image: &[u8]) -> [u8; 16] {
@@ -88,7 +91,8 @@ pub fn packet_with(
         packet,
         data,
     };
-    let reply = drive.answered();
+    let marks = MarksAhead::of(bug, drive.image, drive.state.position);
+    let reply = marks.shown_by_mistake(bug, packet, drive.answered());
     // 01: "A refusal .. alters nothing".
     if !matches!(reply.ending, Ending::Refused(_)) {
         // 01: "Each packet but 03h that isn't refused replaces the sense, with zero where it ends GOOD." (03h clears it.)
@@ -410,29 +414,24 @@ impl Drive<'_> {
     // 01: "Data: copied, P + 1. .. Unreadable: P + 1, stop, 3/11/00. P = U: stop, 8/00/05, no EOM. A stop is valid with information
     // N minus blocks copied. N = 0 is GOOD." "kind 2 counts as unreadable. Its residue on an unreadable block leaves out the block
     // in error" (02, A1).
+    // 02, A6: "READ copies it as data" of a marked block.
     fn read(&mut self, header: &Header) -> Reply {
-        let size = header.block_size;
-        let mut copied = 0;
+        let mut reading = Reading::begun(self.bug, header, self.state.position, self.count());
         let mut reply = Reply::good();
-        while copied < self.count() {
-            let residue = self.count() - copied;
+        while reading.left() > 0 && reply.ending == Ending::Good {
             if self.at_end(header) {
-                reply = self.met_end_of_data(header, residue);
+                reply = self.met_end_of_data(header, reading.left());
                 break;
             }
             let element = self.state.position;
             self.state.position += 1;
-            let kind = header.kind_of(self.image, element);
-            if kind != Kind::Data {
-                reply = self.stopped_at(kind, residue);
-                break;
+            match header.kind_of(self.bug, self.image, element) {
+                Kind::Marked if self.bug == Bug::ReadSkipsMarked => (),
+                Kind::Data | Kind::Marked => reading.copy(self.image, element, self.data),
+                kind => reply = self.stopped_at(kind, reading.left()),
             }
-            let at = (copied * size) as usize;
-            let block = header.block(self.image, element);
-            self.data[at..at + size as usize].copy_from_slice(block);
-            copied += 1;
         }
-        reply.with_blocks(copied).with_bytes(copied * size)
+        reading.told(self.image, reply)
     }
 
     // "W plays no part" (02, A1), so A3's EOM is the stream device's alone.
@@ -452,7 +451,7 @@ impl Drive<'_> {
     }
 
     // 01: "At P = C: stop, key D, EOM, 00/02, valid, information the rest. Else bytes and kind 1 stored, P + 1". "a write leaves U";
-    // "W plays no part" (02, A1).
+    // "W plays no part" (02, A1). 02, A6: "WRITE still stores kind 1.", whatever WDAM says.
     fn write(&mut self, header: &mut Header) -> Reply {
         let size = header.block_size;
         let mut stored = 0;
@@ -462,14 +461,8 @@ impl Drive<'_> {
                 reply = cartridge_full(self.count() - stored);
                 break;
             }
-            let at = (stored * size) as usize;
-            let bytes = &self.data[at..at + size as usize];
-            header.put_block(self.image, self.state.position, bytes);
-            self.state.position += 1;
+            self.store_block(header, stored);
             stored += 1;
-            if self.bug == Bug::FloppyWriteSetsRecorded {
-                header.put_recorded(self.image, self.state.position);
-            }
         }
         let past_warning = self.state.position > header.warning_border();
         let all_stored = stored >= 1 && reply.ending == Ending::Good;
@@ -477,6 +470,20 @@ impl Drive<'_> {
             reply = early_warning();
         }
         reply.with_blocks(stored).with_bytes(stored * size)
+    }
+
+    fn store_block(&mut self, header: &mut Header, already_stored: u32) {
+        let element = self.state.position;
+        let at = (already_stored * header.block_size) as usize;
+        let bytes = &self.data[at..at + header.block_size as usize];
+        header.put_block(self.bug, self.image, element, bytes);
+        if self.bug == Bug::WriteFollowsWdam && self.parameters.flags & WDAM != 0 {
+            header.put_mark(self.image, element);
+        }
+        self.state.position += 1;
+        if self.bug == Bug::FloppyWriteSetsRecorded {
+            header.put_recorded(self.image, self.state.position);
+        }
     }
 
     // "one that puts it below P sets P 0" (02, A1).

@@ -1,5 +1,7 @@
 //! The cartridge image: its header's rules and its elements.
 
+use std::ops::Range;
+
 use crate::bug::{Bug, TWO_TO_THE_32};
 use crate::bytes::{long_at, put_long, word_at};
 
@@ -7,6 +9,8 @@ const HEADER_LENGTH: usize = 32;
 const RECORDED_AT: usize = 8;
 const KIND_DATA: u8 = 1;
 const KIND_FILEMARK: u8 = 2;
+/// "Kind 4 becomes "data, marked"." (02, A6)
+const KIND_MARKED: u8 = 4;
 
 /// What an element is.
 #[derive(Clone, Copy, Debug, PartialEq, Eq)]
@@ -14,6 +18,8 @@ pub enum Kind {
     Data,
     Filemark,
     Unreadable,
+    /// Data, with a deleted address mark.
+    Marked,
 }
 
 /// The header of an image that keeps every header rule.
@@ -84,11 +90,14 @@ impl Header {
         self.kinds_at >= 32 && kinds_end <= u64::from(self.blocks_at) && blocks_end <= image_length
     }
 
-    // "Below U, 1 is data, 2 a filemark, every other value an unreadable block."
-    pub(crate) fn kind_of(&self, image: &[u8], element: u32) -> Kind {
+    // "Below U, 1 is data, 2 a filemark, every other value an unreadable block."; 02, A6: "Everything that asks for an element's
+    // kind now gets this fourth reply; 01's "every other value" no longer takes in 4."
+    pub(crate) fn kind_of(&self, bug: Bug, image: &[u8], element: u32) -> Kind {
         match image[self.kind_at(element)] {
             KIND_DATA => Kind::Data,
             KIND_FILEMARK => Kind::Filemark,
+            KIND_MARKED if bug != Bug::MarkedIsUnreadable => Kind::Marked,
+            5.. if bug == Bug::KindsAboveFourAreMarked => Kind::Marked,
             _ => Kind::Unreadable,
         }
     }
@@ -98,14 +107,34 @@ impl Header {
         &image[at..at + self.block_size as usize]
     }
 
-    pub(crate) fn put_block(&self, image: &mut [u8], element: u32, bytes: &[u8]) {
+    // "bytes and kind 1 stored"; 02, A6: "WRITE still stores kind 1."
+    pub(crate) fn put_block(&self, bug: Bug, image: &mut [u8], element: u32, bytes: &[u8]) {
         let at = self.block_at(element);
         image[at..at + self.block_size as usize].copy_from_slice(bytes);
-        image[self.kind_at(element)] = KIND_DATA;
+        if !(bug == Bug::WriteKeepsMark && self.has_mark(image, element)) {
+            image[self.kind_at(element)] = KIND_DATA;
+        }
     }
 
-    pub(crate) fn put_filemark(&self, image: &mut [u8], element: u32) {
-        image[self.kind_at(element)] = KIND_FILEMARK;
+    pub(crate) fn put_filemark(&self, bug: Bug, image: &mut [u8], element: u32) {
+        if !(bug == Bug::FilemarkKeepsMark && self.has_mark(image, element)) {
+            image[self.kind_at(element)] = KIND_FILEMARK;
+        }
+    }
+
+    pub(crate) fn put_mark(&self, image: &mut [u8], element: u32) {
+        image[self.kind_at(element)] = KIND_MARKED;
+    }
+
+    /// How many of these elements have a mark.
+    pub(crate) fn marked_in(&self, image: &[u8], elements: Range<u32>) -> u32 {
+        elements
+            .map(|element| u32::from(self.has_mark(image, element)))
+            .sum()
+    }
+
+    fn has_mark(&self, image: &[u8], element: u32) -> bool {
+        image[self.kind_at(element)] == KIND_MARKED
     }
 
     pub(crate) fn clear_block(&self, image: &mut [u8], element: u32) {
@@ -200,19 +229,18 @@ mod tests {
     }
 
     #[test]
-    fn kinds_are_three() {
+    fn kinds_are_four() {
         let mut image = good();
-        image[32..36].copy_from_slice(&[1, 2, 3, 0]);
         let header = Header::of(&image).expect("a good image");
-        let kinds: Vec<Kind> = (0..4).map(|i| header.kind_of(&image, i)).collect();
-        assert_eq!(
-            kinds,
-            [
-                Kind::Data,
-                Kind::Filemark,
-                Kind::Unreadable,
-                Kind::Unreadable
-            ]
-        );
+        for kind in 0..=255 {
+            image[33] = kind;
+            let expected = match kind {
+                1 => Kind::Data,
+                2 => Kind::Filemark,
+                4 => Kind::Marked,
+                _ => Kind::Unreadable,
+            };
+            assert_eq!(header.kind_of(Bug::None, &image, 1), expected, "{kind}");
+        }
     }
 }

@@ -12,6 +12,7 @@ pub mod floppy;
 mod image;
 pub mod packet;
 pub mod pulse;
+mod reading;
 mod record;
 mod reply;
 

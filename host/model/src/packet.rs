@@ -4,6 +4,7 @@ use crate::bug::{Bug, TWO_TO_THE_32};
 use crate::bytes::{long_at, put_long, triple_at};
 use crate::commands::*;
 use crate::image::{Header, Kind};
+use crate::reading::{MarksAhead, Reading};
 use crate::record::{Attention, Sense, State};
 use crate::reply::*;
 
@@ -81,7 +82,8 @@ pub fn packet_with(
         packet,
         data,
     };
-    let reply = drive.answered();
+    let marks = MarksAhead::of(bug, drive.image, drive.state.position);
+    let reply = marks.shown_by_mistake(bug, packet, drive.answered());
     if let Ending::Refused(_) = reply.ending {
         // "A refusal returns its number, status 0, 0 blocks and bytes .., and alters nothing".
         if bug == Bug::RefusalClearsSense {
@@ -288,43 +290,35 @@ impl Drive<'_> {
 
     // "08h READ, count N .. Data: copied, P + 1. Filemark: P + 1, stop, key 0, filemark, 00/01. Unreadable: P + 1, stop, 3/11/00.
     // P = U: stop, 8/00/05 .. A stop is valid with information N minus blocks copied. N = 0 is GOOD."
+    // 02, A6: "READ copies it as data" of a marked block.
     fn read(&mut self, header: &Header) -> Reply {
-        let size = header.block_size;
-        let mut copied = 0;
+        let mut reading = Reading::begun(self.bug, header, self.state.position, self.count());
         let mut reply = Reply::good();
-        while copied < self.count() {
-            let residue = self.count() - copied;
+        while reading.left() > 0 && reply.ending == Ending::Good {
             if self.state.position == header.recorded {
-                reply = self.met_end_of_data(header, residue);
+                reply = self.met_end_of_data(header, reading.left());
                 break;
             }
             let element = self.state.position;
             self.state.position += 1;
-            match header.kind_of(self.image, element) {
-                Kind::Data => {
-                    let at = (copied * size) as usize;
-                    let block = header.block(self.image, element);
-                    self.data[at..at + size as usize].copy_from_slice(block);
-                    copied += 1;
-                }
-                Kind::Filemark if self.bug == Bug::ResidueCountsFilemark => {
-                    reply = at_filemark(residue - 1);
-                    break;
-                }
-                Kind::Filemark => {
-                    reply = at_filemark(residue);
-                    break;
-                }
-                Kind::Unreadable => {
-                    reply = at_unreadable(residue);
-                    break;
-                }
+            match header.kind_of(self.bug, self.image, element) {
+                Kind::Marked if self.bug == Bug::ReadSkipsMarked => (),
+                Kind::Data | Kind::Marked => reading.copy(self.image, element, self.data),
+                Kind::Filemark => reply = self.met_filemark(reading.left()),
+                Kind::Unreadable => reply = at_unreadable(reading.left()),
             }
         }
         if self.bug == Bug::ReadClearsRest {
-            self.data[(copied * size) as usize..].fill(0);
+            self.data[reading.bytes() as usize..].fill(0);
         }
-        reply.with_blocks(copied).with_bytes(copied * size)
+        reading.told(self.image, reply)
+    }
+
+    fn met_filemark(&self, residue: u32) -> Reply {
+        if self.bug == Bug::ResidueCountsFilemark {
+            return at_filemark(residue - 1);
+        }
+        at_filemark(residue)
     }
 
     // 02, A3: "So 8/00/05 on READ and SPACE carries EOM when U > C - W. The cases with W 0 stay."
@@ -382,9 +376,9 @@ impl Drive<'_> {
         if self.opcode() == WRITE {
             let at = (already_stored * header.block_size) as usize;
             let bytes = &self.data[at..at + header.block_size as usize];
-            header.put_block(self.image, element, bytes);
+            header.put_block(self.bug, self.image, element, bytes);
         } else {
-            header.put_filemark(self.image, element);
+            header.put_filemark(self.bug, self.image, element);
             if self.bug == Bug::FilemarkClearsBlock {
                 header.clear_block(self.image, element);
             }
@@ -430,7 +424,7 @@ impl Drive<'_> {
 
     // "Code 0 passes blocks, unreadable too; a filemark is crossed and stops it (key 0, filemark, 00/01). Code 1 passes filemarks,
     // ending beyond the last, on the beginning side when going back. End of data 8/00/05; beginning key 0, EOM, 00/04. A stop is
-    // valid with information the magnitude asked minus those passed."
+    // valid with information the magnitude asked minus those passed." 02, A6: "SPACE counts it as a block".
     fn space_elements(
         &mut self,
         header: &Header,
@@ -449,13 +443,23 @@ impl Drive<'_> {
                     Reply::ended(Ending::AtBeginning, sense)
                 };
             };
-            match (code, kind) {
+            match (code, self.kind_in_space(code, kind)) {
                 (SPACE_BLOCKS, Kind::Filemark) => return at_filemark(residue),
+                (SPACE_BLOCKS, Kind::Marked) if self.bug == Bug::SpaceSkipsMarked => (),
                 (SPACE_BLOCKS, _) | (_, Kind::Filemark) => passed += 1,
                 (_, _) => (),
             }
         }
         Reply::good()
+    }
+
+    /// The element's kind, or what a mistake takes a marked block for.
+    fn kind_in_space(&self, code: u8, kind: Kind) -> Kind {
+        match (self.bug, code, kind) {
+            (Bug::SpaceStopsAtMarked, SPACE_BLOCKS, Kind::Marked)
+            | (Bug::SpaceTakesMarkedForFilemark, SPACE_FILEMARKS, Kind::Marked) => Kind::Filemark,
+            _ => kind,
+        }
     }
 
     /// Moves over one element and tells its kind; none is left at the end of data, or at the beginning going back.
@@ -465,13 +469,13 @@ impl Drive<'_> {
                 return None;
             }
             self.state.position += 1;
-            Some(header.kind_of(self.image, self.state.position - 1))
+            Some(header.kind_of(self.bug, self.image, self.state.position - 1))
         } else {
             if self.state.position == 0 {
                 return None;
             }
             self.state.position -= 1;
-            Some(header.kind_of(self.image, self.state.position))
+            Some(header.kind_of(self.bug, self.image, self.state.position))
         }
     }
 

@@ -35,6 +35,7 @@ pub struct Reply {
     pub sense: Sense,
     blocks: u32,
     bytes: u32,
+    marked: u32,
 }
 
 impl Reply {
@@ -52,6 +53,7 @@ impl Reply {
             sense,
             blocks: 0,
             bytes: 0,
+            marked: 0,
         }
     }
 
@@ -61,6 +63,11 @@ impl Reply {
 
     pub fn with_bytes(self, bytes: u32) -> Reply {
         Reply { bytes, ..self }
+    }
+
+    // 02, A6: "a READ's answer also says how many of the blocks copied were marked."
+    pub fn with_marked(self, marked: u32) -> Reply {
+        Reply { marked, ..self }
     }
 
     fn number(&self) -> u8 {
@@ -84,6 +91,7 @@ impl Reply {
         answer[1] = self.status();
         put_long(&mut answer, 4, self.blocks);
         put_long(&mut answer, 8, self.bytes);
+        put_long(&mut answer, 12, self.marked);
         answer
     }
 }

@@ -106,6 +106,8 @@ pub mod triple {
 pub mod kind {
     pub const DATA: u8 = 1;
     pub const FILEMARK: u8 = 2;
+    /// Data with a deleted address mark (02, A6).
+    pub const MARKED: u8 = 4;
 }
 
 /// Pulses of the trains that the pulse drive knows.

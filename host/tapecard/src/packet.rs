@@ -47,6 +47,8 @@ pub struct Answer {
     pub blocks: u32,
     /// Bytes filled or taken in the data buffer.
     pub bytes: u32,
+    /// Of the blocks that a READ copied, how many are marked (02, A6); 0 for every other packet.
+    pub marked: u32,
 }
 
 impl Record {
@@ -112,6 +114,7 @@ impl Answer {
             status: bytes[1],
             blocks: long_at(bytes, 4),
             bytes: long_at(bytes, 8),
+            marked: long_at(bytes, 12),
         })
     }
 

@@ -1,6 +1,6 @@
 //! The floppy device through its typed interface.
 
-use tapecard::bytes::{length, opcode, page, triple};
+use tapecard::bytes::{kind, length, opcode, page, triple};
 use tapecard::floppy::{Record, Tape, packet};
 use tapecard::packet::{Answer, Attention, CHECK_CONDITION, GOOD, Sense};
 use tapecard::{Device, Refusal};
@@ -102,6 +102,7 @@ fn a_block_is_rewritten_in_place() {
         status: GOOD,
         blocks: 1,
         bytes: BLOCK as u32,
+        marked: 0,
     };
     assert_eq!((answer, record.position()), (Ok(one_block), 2));
     assert_eq!(image, expected);
@@ -119,6 +120,35 @@ fn an_unreadable_block_is_left_out_of_the_residue() {
     assert_eq!(sense.triple(), triple::UNREADABLE);
     assert_eq!((sense.valid, sense.information), (true, 2));
     assert_eq!(record.position(), 2);
+}
+
+/// 02, A6: "a READ's answer also says how many of the blocks copied were marked." "WRITE still stores kind 1.", with WDAM too.
+#[test]
+fn marked_blocks_are_read_counted_and_written_over() {
+    for flags in [0x00, 0x80] {
+        let mut image = image();
+        image[32..34].fill(kind::MARKED);
+        let mut record = ready(&mut image);
+        record.0[19] = flags;
+        let mut room = [0xEE; 4 * BLOCK];
+        let mut send = |packet_bytes: &[u8; 12]| {
+            packet(&mut record, &mut image, packet_bytes, &mut room).expect("a whole packet")
+        };
+        let whole = Answer {
+            status: GOOD,
+            blocks: 4,
+            bytes: 4 * BLOCK as u32,
+            marked: 2,
+        };
+        assert_eq!(send(&with_byte_4(opcode::READ, 4)), whole);
+        assert_eq!(send(&locate(0)).marked, 0);
+        let written = send(&with_byte_4(opcode::WRITE, 1));
+        assert_eq!((written.blocks, written.marked), (1, 0));
+        assert_eq!(send(&locate(0)).marked, 0);
+        let fewer = Answer { marked: 1, ..whole };
+        assert_eq!(send(&with_byte_4(opcode::READ, 4)), fewer);
+        assert_eq!(image[32..34], [kind::DATA, kind::MARKED]);
+    }
 }
 
 /// What is set is what the record has, what MODE SENSE tells, and where transfers and LOCATE end.

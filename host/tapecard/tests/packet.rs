@@ -1,6 +1,6 @@
 //! The packet drive through its typed interface.
 
-use tapecard::bytes::{opcode, page, space};
+use tapecard::bytes::{kind, opcode, page, space};
 use tapecard::packet::{Answer, Attention, CHECK_CONDITION, GOOD, Record, Sense, packet};
 use tapecard::{Device, Refusal, sense_words};
 
@@ -71,6 +71,7 @@ fn two_reads_and_their_sense() {
         status: CHECK_CONDITION,
         blocks: 1,
         bytes: 512,
+        marked: 0,
     };
     assert_eq!(answer, Ok(one_block));
     assert_eq!(record.position(), 2);
@@ -117,6 +118,39 @@ fn the_end_of_data_near_the_end_of_tape() {
             assert_eq!((record.position(), record.sense()), (3, end));
         }
     }
+}
+
+/// 02, A6: "READ copies it as data, SPACE counts it as a block, and a READ's answer also says how many of the blocks copied were
+/// marked." "WRITE still stores kind 1."
+#[test]
+fn marked_blocks_are_read_counted_and_written_over() {
+    let mut image = image();
+    image[32..35].copy_from_slice(&[kind::MARKED, kind::DATA, kind::MARKED]);
+    let mut record = told_of_the_reset(&mut image);
+    let read_4 = counted(opcode::READ, 1, 4);
+    let mut room = [0; 4 * 512];
+    let mut send = |packet_bytes: &[u8; 12]| {
+        packet(&mut record, &mut image, packet_bytes, &mut room).expect("a whole packet")
+    };
+    let three_blocks = Answer {
+        status: CHECK_CONDITION,
+        blocks: 3,
+        bytes: 3 * 512,
+        marked: 2,
+    };
+    assert_eq!(send(&read_4), three_blocks);
+    send(&counted(opcode::REWIND, 0, 0));
+    let spaced = send(&counted(opcode::SPACE, space::BLOCKS, 2));
+    assert_eq!((spaced.status, spaced.marked), (GOOD, 0));
+    let written = send(&counted(opcode::WRITE, 1, 1));
+    assert_eq!((written.blocks, written.marked), (1, 0));
+    send(&counted(opcode::REWIND, 0, 0));
+    let fewer = Answer {
+        marked: 1,
+        ..three_blocks
+    };
+    assert_eq!(send(&read_4), fewer);
+    assert_eq!(image[32..35], [kind::MARKED, kind::DATA, kind::DATA]);
 }
 
 #[test]

@@ -23,10 +23,17 @@ slice-aggregate-put-count4-2 c = search needs
 put-count4-requires-2 : tie.Need-put-count4-requires-2
 put-count4-requires-2 c κs = search needs
 
+slice-aggregate-put-count4-3 : tie.Need-slice-aggregate-put-count4-3
+slice-aggregate-put-count4-3 c = search needs
+
+put-count4-requires-3 : tie.Need-put-count4-requires-3
+put-count4-requires-3 c κs = search needs
+
 returns : tie.Need-returns
 unfolding encodeAnswer
 returns c =
-    simp (c .before .put-count42 .ensures, c .before .before .before .before .put-count4 .ensures)
+    let b3 = c .before .before .before in
+    simp (c .before .put-count43 .ensures, b3 .before .put-count42 .ensures, b3 .before .before .before .before .put-count4 .ensures)
 
 pub encode-answer-spec : {M : Type 1} → statement M
 encode-answer-spec =
@@ -38,4 +45,6 @@ encode-answer-spec =
     put-count4-requires
     slice-aggregate-put-count4-2
     put-count4-requires-2
+    slice-aggregate-put-count4-3
+    put-count4-requires-3
     returns)

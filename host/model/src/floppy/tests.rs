@@ -1,5 +1,7 @@
 //! The floppy tape device's plates, each worked out by hand from the words of 02's A1 and of 01.
 
+mod marked;
+
 use super::*;
 use crate::bytes::put_long;
 
@@ -20,6 +22,7 @@ struct Told {
     status: u8,
     blocks: u32,
     bytes: u32,
+    marked: u32,
 }
 
 fn told(number: u8, status: u8, blocks: u32, bytes: u32) -> Told {
@@ -28,6 +31,7 @@ fn told(number: u8, status: u8, blocks: u32, bytes: u32) -> Told {
         status,
         blocks,
         bytes,
+        marked: 0,
     }
 }
 
@@ -80,9 +84,16 @@ impl Bench {
     fn send_with_room(&mut self, packet: &[u8], room: usize) -> Told {
         let data = &mut self.data[..room];
         let answer = super::packet(&mut self.record, &mut self.image, packet, data);
-        assert_eq!((&answer[2..4], &answer[12..]), (&[0; 2][..], &[0; 4][..]));
-        let blocks = long_at(&answer, 4);
-        told(answer[0], answer[1], blocks, long_at(&answer, 8))
+        assert_eq!(answer[2..4], [0; 2]);
+        Told {
+            marked: long_at(&answer, 12),
+            ..told(
+                answer[0],
+                answer[1],
+                long_at(&answer, 4),
+                long_at(&answer, 8),
+            )
+        }
     }
 
     /// A MODE SELECT list of 28 bytes with these in its page's places 5 to 9.

@@ -1,5 +1,7 @@
 //! The plates of the packet drive, and the readings that the interface page settles.
 
+mod marked;
+
 use super::*;
 use crate::bytes::{put_word, word_at};
 
@@ -17,6 +19,20 @@ struct Told {
     status: u8,
     blocks: u32,
     bytes: u32,
+    marked: u32,
+}
+
+impl Told {
+    fn of(answer: [u8; 16]) -> Told {
+        assert_eq!(answer[2..4], [0, 0]);
+        Told {
+            number: answer[0],
+            status: answer[1],
+            blocks: long_at(&answer, 4),
+            bytes: long_at(&answer, 8),
+            marked: long_at(&answer, 12),
+        }
+    }
 }
 
 impl Bench {
@@ -65,31 +81,21 @@ impl Bench {
         self
     }
 
+    /// The answer over an image without marked blocks, or to a packet that tells of none.
     fn send(&mut self, bytes: &[u8]) -> Told {
-        let answer = packet(&mut self.record, &mut self.image, bytes, &mut self.data);
-        assert_eq!(&answer[2..4], [0, 0]);
-        assert_eq!(&answer[12..], [0; 4]);
-        Told {
-            number: answer[0],
-            status: answer[1],
-            blocks: long_at(&answer, 4),
-            bytes: long_at(&answer, 8),
-        }
+        let room = self.data.len();
+        let told = self.send_with_room(bytes, room);
+        assert_eq!(told.marked, 0);
+        told
     }
 
     fn send_with_room(&mut self, bytes: &[u8], room: usize) -> Told {
-        let answer = packet(
+        Told::of(packet(
             &mut self.record,
             &mut self.image,
             bytes,
             &mut self.data[..room],
-        );
-        Told {
-            number: answer[0],
-            status: answer[1],
-            blocks: long_at(&answer, 4),
-            bytes: long_at(&answer, 8),
-        }
+        ))
     }
 
     fn position(&self) -> u32 {

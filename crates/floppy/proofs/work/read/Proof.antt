@@ -3,7 +3,7 @@
 use native.Mathlib.Nat.{mul-le-mul-right}
 use native.Mathlib.Omega.{arith}
 use Rattle.image.proofs.HeaderLaws.{sound}
-use Rattle.floppy.proofs.WorkLaws.{read-less, read-went}
+use Rattle.floppy.proofs.WorkLaws.{read-less, read-few, read-went}
 use borrow.Author.Needs.{needs}
 use Rattle.floppy.proofs.work.read.Statement.{statement}
 use Rattle.floppy.proofs.work.read.Tie as tie
@@ -18,12 +18,14 @@ read-blocks-requires c κs =
 read-ending-requires : tie.Need-read-ending-requires
 read-ending-requires c κs = search needs
 
-end-moved-requires : tie.Need-end-moved-requires
-end-moved-requires c κs =
+end-read-requires : tie.Need-end-read-requires
+end-read-requires c κs =
     let start = c .before .before .before .before .before .before .before in
     let g = sound _ _ (start .pre .0) in
-    let l = read-less _ (start .args .h) _ (start .args .state) _ _ _ _ (c .before .before .before .read-blocks .ensures) in
-    omega (arith, start .fits .asked .fits)
+    let run = c .before .before .before .read-blocks .ensures in
+    let l = read-less _ (start .args .h) _ (start .args .state) _ _ _ _ run in
+    let f = read-few _ (start .args .h) _ (start .args .state) _ _ _ _ run (start .pre .1 .1 .0) in
+    omega (arith, start .pre)
 
 same-length : tie.Need-same-length
 same-length c = search needs
@@ -34,4 +36,4 @@ returns c = search read-went
 pub read-spec : {M : Type 1} → statement M
 read-spec =
     tie.close
-    (tie.spec read-blocks-requires read-ending-requires end-moved-requires same-length returns)
+    (tie.spec read-blocks-requires read-ending-requires end-read-requires same-length returns)

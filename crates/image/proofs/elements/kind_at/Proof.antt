@@ -22,8 +22,13 @@ returns-2 c = simp (← c .before .before .kind-place .ensures, c .match .keys2)
 
 returns-3 : tie.Need-returns-3
 unfolding kindAt kindOf
-returns-3 c = simp (← c .before .before .kind-place .ensures, ne-eqb _ _ (c .match .rest .1), ne-eqb _ _ (c .match .rest .0 .1))
+returns-3 c = simp (← c .before .before .kind-place .ensures, c .match .keys3)
+
+returns-4 : tie.Need-returns-4
+unfolding kindAt kindOf
+returns-4 c =
+    simp (← c .before .before .kind-place .ensures, ne-eqb _ _ (c .match .rest .1), ne-eqb _ _ (c .match .rest .0 .1), ne-eqb _ _ (c .match .rest .0 .0 .1))
 
 pub kind-at-spec : {M : Type 1} → statement M
 kind-at-spec =
-    tie.close (tie.spec kind-place-requires shared-slice-read-match returns returns-2 returns-3)
+    tie.close (tie.spec kind-place-requires shared-slice-read-match returns returns-2 returns-3 returns-4)

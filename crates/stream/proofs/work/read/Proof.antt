@@ -13,13 +13,13 @@ read-blocks-requires c κs = let g = sound _ _ (c .before .before .before .pre .
 ending-of-requires : tie.Need-ending-of-requires
 ending-of-requires c κs = let g = sound _ _ (c .before .before .before .before .before .before .pre .0) in omega arith
 
-end-moved-requires : tie.Need-end-moved-requires
-end-moved-requires c κs =
+end-read-requires : tie.Need-end-read-requires
+end-read-requires c κs =
     let b3 = c .before .before .before in
     let b7 = b3 .before .before .before .before in
     let g = sound _ _ (b7 .pre .0) in
     let l = read-less _ (b7 .args .h) (b7 .args .state) _ _ _ _ (b3 .read-blocks .ensures) in
-    let f = read-few _ (b7 .args .h) (b7 .args .state) _ _ _ _ (b3 .read-blocks .ensures) in
+    let f = read-few _ (b7 .args .h) (b7 .args .state) _ _ _ _ (b3 .read-blocks .ensures) (b7 .pre .1 .0) in
     omega arith
 
 same-length : tie.Need-same-length
@@ -31,4 +31,4 @@ returns c = search read-went
 pub read-spec : {M : Type 1} → statement M
 read-spec =
     tie.close
-    (tie.spec read-blocks-requires ending-of-requires end-moved-requires same-length returns)
+    (tie.spec read-blocks-requires ending-of-requires end-read-requires same-length returns)
