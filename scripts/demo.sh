@@ -1,6 +1,6 @@
 #!/usr/bin/env bash
 # A walk through the drive card in under a minute: glyphs on a tape and back, a READ that stops, one near the end of tape, a speed
-# set, a cut packet, a glyph redrawn in place, a lost drive.
+# set, a cut packet, a glyph redrawn in place, a marked header block, a lost drive.
 # Run by `make demo`, after the archive and the command are built. TAPECARD may name another build of the command.
 set -euo pipefail
 cd "$(dirname "$0")/.."
@@ -109,6 +109,20 @@ paste <(head -n 9 block.1) <(tail -c +513 back | head -n 9)
 cat block.0 redrawn block.2 | cmp - back
 echo "blocks 0 and 2 are the same as before, byte for byte, and block 1 is the new one"
 run info floppy.img
+
+heading "A floppy tape's header block with a deleted address mark reads as data, and its mark is told"
+mark() { # image, element: kind 4, as an image of a real tape has it
+    printf '\004' | dd of="$1" bs=1 seek=$((32 + $2)) conv=notrunc status=none
+}
+mark short.img 0
+run info short.img
+run list short.img
+run get short.img 1 -o thai.marked
+cmp thai.glyphs thai.marked
+mark floppy.img 0
+run packet floppy.img --device floppy --out marked 08 01 00 00 03 00 00 00 00 00 00 00
+cmp back marked
+echo "the file and the three blocks are the same as before, byte for byte"
 
 heading "A workstation loses its pulse drive in the middle of a report"
 printf '\n$ tapecard pulse --record pulse.record\n'

@@ -82,6 +82,8 @@ fn before_the_work(record: &[u8; 16], packet: &[u8]) -> Option<Triple> {
 struct Run {
     position: u32,
     copied: u32,
+    /// Of those copied.
+    marked: u32,
     stop: Option<Triple>,
 }
 
@@ -91,6 +93,7 @@ fn copy_blocks(image: &[u8], header: &Header, from: u32, count: u32, data: &mut 
     let mut run = Run {
         position: from,
         copied: 0,
+        marked: 0,
         stop: None,
     };
     while run.copied < count && run.stop.is_none() {
@@ -100,12 +103,14 @@ fn copy_blocks(image: &[u8], header: &Header, from: u32, count: u32, data: &mut 
         }
         let element = run.position as usize;
         let block = header.blocks_at as usize + element * size;
-        match image[header.kinds_at as usize + element] {
-            kind::DATA => {
+        let element_kind = image[header.kinds_at as usize + element];
+        match element_kind {
+            kind::DATA | kind::MARKED => {
                 let copied = run.copied as usize;
                 let room = &mut data[copied * size..(copied + 1) * size];
                 room.copy_from_slice(&image[block..block + size]);
                 run.copied += 1;
+                run.marked += u32::from(element_kind == kind::MARKED);
             }
             kind::FILEMARK => run.stop = Some(triple::FILEMARK),
             _ => run.stop = Some(triple::UNREADABLE),
@@ -126,13 +131,14 @@ fn finish(record: &mut [u8; 16], header: &Header, run: &Run, count: u32) {
     }
 }
 
-/// Status, blocks and bytes.
+/// Status, blocks, bytes, and how many of the blocks were marked (02, A6).
 fn tell(answer: &mut [u8; 16], header: &Header, run: &Run) {
     if run.stop.is_some() {
         answer[1] = CHECK_CONDITION;
     }
     put_long(answer, 4, run.copied);
     put_long(answer, 8, run.copied * header.block_size);
+    put_long(answer, 12, run.marked);
 }
 
 /// The flag that a stop has beside [`VALID`]. 02, A3: "So 8/00/05 on READ and SPACE carries EOM when U > C - W."

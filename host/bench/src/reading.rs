@@ -3,10 +3,11 @@
 use std::hint::black_box;
 use std::time::{Duration, Instant};
 
+use tapecard::bytes::{kind, long_at};
 use tapecard::raw;
 
 use crate::purpose;
-use crate::tape::{self, BLOCK_SIZE, BLOCKS, EARLY_WARNING_AT, READ, ROOM};
+use crate::tape::{self, BLOCK_SIZE, BLOCKS, EARLY_WARNING_AT, KINDS, READ, ROOM};
 
 const ROUNDS: usize = 5;
 const READS: usize = 5000;
@@ -126,24 +127,31 @@ fn record_at_the_beginning(image: &mut [u8]) -> [u8; 16] {
 }
 
 /// Both give the same record, answer and bytes, and these are the tape's. Both end the next READ alike too, at the end of data before
-/// and past early warning.
+/// and past early warning, and both count the marked blocks of a tape that has some.
 fn check_alike(start: &[u8; 16], image: &mut [u8]) {
-    let (behind, data) = read_by_both(start, image);
+    let (behind, _, data) = read_by_both(start, image);
     assert_eq!(data, image[image.len() - ROOM..], "the tape's bytes");
     for early_warning in [0, 1] {
         let mut cartridge = image.to_vec();
         cartridge[EARLY_WARNING_AT] = early_warning;
         read_by_both(&behind, &mut cartridge);
     }
+    for marked in [0, 1, BLOCKS] {
+        let mut cartridge = image.to_vec();
+        cartridge[KINDS][..marked].fill(kind::MARKED);
+        let (_, answer, copied) = read_by_both(start, &mut cartridge);
+        assert_eq!(long_at(&answer, 12) as usize, marked, "marked blocks");
+        assert_eq!(copied, data, "a mark changes no byte");
+    }
 }
 
-/// The record and the bytes that a READ from this record gives.
-fn read_by_both(start: &[u8; 16], image: &mut [u8]) -> ([u8; 16], Vec<u8>) {
+/// The record, the answer and the bytes that a READ from this record gives.
+fn read_by_both(start: &[u8; 16], image: &mut [u8]) -> ([u8; 16], [u8; 16], Vec<u8>) {
     let [engine, rust] = [raw::packet as Call, by_purpose].map(|call| {
         let (mut record, mut answer, mut data) = (*start, [0; 16], vec![0; ROOM]);
         call(&mut record, image, &READ, &mut data, &mut answer);
         (record, answer, data)
     });
     assert_eq!(engine, rust, "engine and Rust agree");
-    (engine.0, engine.2)
+    engine
 }

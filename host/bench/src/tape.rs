@@ -1,5 +1,7 @@
 //! The cartridge and the packet that are measured.
 
+use std::ops::Range;
+
 use tapecard::bytes::{kind, opcode, put_long, put_word};
 
 pub const BLOCK_SIZE: usize = 1024;
@@ -12,12 +14,14 @@ pub const READ: [u8; 12] = [opcode::READ, 1, 0, 0, BLOCKS as u8, 0, 0, 0, 0, 0, 
 /// The low byte of the early warning, 0 on the tape that is measured.
 pub const EARLY_WARNING_AT: usize = 23;
 
+/// The kinds of the blocks, none of them marked on the tape that is measured.
+pub const KINDS: Range<usize> = HEADER..HEADER + BLOCKS;
+
 const HEADER: usize = 32;
 
 /// A tape of 64 recorded data blocks, each byte set by its place.
 pub fn image() -> Vec<u8> {
-    let kinds_at = HEADER;
-    let blocks_at = kinds_at + BLOCKS;
+    let (kinds_at, blocks_at) = (KINDS.start, KINDS.end);
     let mut image = vec![0; blocks_at + ROOM];
     put_word(&mut image, 0, HEADER as u16);
     put_word(&mut image, 2, BLOCK_SIZE as u16);
@@ -25,7 +29,7 @@ pub fn image() -> Vec<u8> {
     put_long(&mut image, 8, BLOCKS as u32);
     put_long(&mut image, 12, kinds_at as u32);
     put_long(&mut image, 16, blocks_at as u32);
-    image[kinds_at..blocks_at].fill(kind::DATA);
+    image[KINDS].fill(kind::DATA);
     for (place, byte) in image[blocks_at..].iter_mut().enumerate() {
         *byte = (place * 7 + place / BLOCK_SIZE) as u8;
     }

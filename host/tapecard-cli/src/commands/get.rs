@@ -31,7 +31,8 @@ name in this directory, if it is whole and its checksum is right.
   --raw      all its blocks as they are, a label among them; needs -o
   --salvage  take what can be read of a damaged file, zeros for what cannot be;
              says what is missing and ends with status 1
-A file without a label is taken in whole blocks and needs -o.
+A file without a label is taken in whole blocks and needs -o. Marked blocks
+(data with a deleted address mark) are read as any others, and counted.
 ";
 
 pub const COMMAND: Command = Command {
@@ -90,6 +91,8 @@ struct Taken {
     number: usize,
     target: PathBuf,
     bytes: Vec<u8>,
+    /// Of the file's blocks, its label's among them.
+    marked: u32,
     /// The whole blocks of a file whose length no label tells.
     in_blocks: bool,
     damage: Vec<String>,
@@ -108,13 +111,11 @@ impl Taken {
             Some(path) => path.to_owned(),
             None => own_name(number, file)?,
         };
-        let wanted = if raw { file.whole() } else { file.content() };
         let reading = format!("reading {}", file.name());
-        let mut progress = Progress::new(reading, wanted.blocks.into());
-        let mut read = reading::read(drive, wanted, &mut progress)?;
-        if let (Some(length), false) = (file.length(), raw) {
-            let length = usize::try_from(length).unwrap_or(usize::MAX);
-            read.bytes.truncate(length);
+        let mut progress = Progress::new(reading, file.blocks.into());
+        let mut read = reading::read(drive, file.whole(), &mut progress)?;
+        if !raw {
+            keep_own_bytes(file, drive.block_size(), &mut read.bytes);
         }
         let damage = damage::found(file, &read, raw, drive.block_size());
         if !damage.is_empty() && !args.has("--salvage") {
@@ -128,6 +129,7 @@ impl Taken {
             number,
             target,
             bytes: read.bytes,
+            marked: read.marked,
             in_blocks: file.label.is_none() && !raw,
             damage,
         })
@@ -138,7 +140,7 @@ impl Taken {
         if !to_standard {
             ensure_distinct(image, &self.target)?;
         }
-        let length = words::count(self.bytes.len() as u64, "byte");
+        let got = self.got();
         OutputFile::open(&self.target, force)?
             .keep(&mut self.bytes)
             .map_err(|(path, e)| unwritten(&path, &e, &self.lost(to_standard)))?;
@@ -150,15 +152,23 @@ impl Taken {
         let told = if to_standard {
             let _ = writeln!(
                 io::stderr(),
-                "got file {} on standard output: {length}",
+                "got file {} on standard output: {got}",
                 self.number
             );
             Ok(())
         } else {
-            let told = format!("got {}: {length}\n", words::shown(&self.target));
+            let told = format!("got {}: {got}\n", words::shown(&self.target));
             output::tell_done(out, &told, "the file is written")
         };
         self.verdict().and(told)
+    }
+
+    fn got(&self) -> String {
+        let length = words::count(self.bytes.len() as u64, "byte");
+        match self.marked {
+            0 => length,
+            marked => format!("{length}, {marked} of its blocks marked"),
+        }
     }
 
     fn lost(&self, to_standard: bool) -> String {
@@ -177,6 +187,14 @@ impl Taken {
             self.number,
             self.damage.join("; ")
         )))
+    }
+}
+
+/// Of a file with a label: without the label's block, and without what pads the last one.
+fn keep_own_bytes(file: &TapeFile, block_size: usize, bytes: &mut Vec<u8>) {
+    if let Some(length) = file.length() {
+        bytes.drain(..block_size);
+        bytes.truncate(usize::try_from(length).unwrap_or(usize::MAX));
     }
 }
 

@@ -7,9 +7,10 @@ use tapecard::floppy;
 use super::{Command, NO_OPTIONS, open_only_image};
 use crate::command_line::args::Args;
 use crate::command_line::failure::Failure;
-use crate::tape::drive::{Drive, Kind};
+use crate::tape::drive::Drive;
 use crate::tape::header::Header;
 use crate::tape::strip::{self, Tape};
+use crate::tape::survey::{self, Kind};
 use crate::terminal::output;
 use crate::terminal::progress::Progress;
 use crate::words;
@@ -19,7 +20,9 @@ usage: tapecard info IMAGE
 
 Shows the header in words, which devices of the packet drive take the image, and
 the tape as a strip: data, filemarks, unreadable and blank elements, with
-position 0, the end of data and the early warning marked.
+position 0, the end of data and the early warning pointed out. Where blocks are
+marked (data with a deleted address mark, as floppy tapes have on their headers)
+it says how many, and shows them as *.
 ";
 
 pub const COMMAND: Command = Command {
@@ -46,7 +49,7 @@ fn run(args: &Args, out: &mut dyn Write) -> Result<(), Failure> {
 
 fn survey(drive: &mut Drive, header: &Header) -> Result<Vec<Kind>, Failure> {
     let mut progress = Progress::new("reading", header.recorded.into());
-    drive.survey(|elements| progress.advance(elements))
+    survey::survey(drive, |elements| progress.advance(elements))
 }
 
 fn show_header(header: &Header, out: &mut dyn Write) -> Result<(), Failure> {
@@ -87,10 +90,15 @@ fn show_counts(kinds: &[Kind], header: &Header, out: &mut dyn Write) -> Result<(
         words::count(kinds.len() as u64, "element"),
         (header.capacity as usize).saturating_sub(kinds.len())
     )?;
+    let marked = count(Kind::Marked);
+    let of_these_marked = match marked {
+        0 => String::new(),
+        _ => format!(" ({marked} marked)"),
+    };
     writeln!(
         out,
-        "  of these       {}, {}, {} unreadable",
-        words::count(count(Kind::Data), "data block"),
+        "  of these       {}{of_these_marked}, {}, {} unreadable",
+        words::count(count(Kind::Data) + marked, "data block"),
         words::count(count(Kind::Filemark), "filemark"),
         count(Kind::Unreadable)
     )?;

@@ -5,15 +5,20 @@ use std::io::Write;
 use super::{Command, NO_OPTIONS, open_only_image};
 use crate::command_line::args::Args;
 use crate::command_line::failure::Failure;
-use crate::tape::catalogue::catalogue;
+use crate::tape::catalogue::{TapeFile, catalogue};
+use crate::tape::drive::Drive;
+use crate::tape::reading;
 use crate::terminal::output;
+use crate::terminal::progress::Progress;
 use crate::words::{self, names};
 
 const HELP: &str = "\
 usage: tapecard list IMAGE
 
-Lists the files: number, name, exact bytes, blocks (the label among them) and
-the position of the first one. In a name, what cannot be seen stands escaped.
+Lists the files: number, name, exact bytes, blocks (the label among them), the
+position of the first one, and what else there is to know: a file that was cut
+short, or how many of its blocks are marked (data with a deleted address mark).
+In a name, what cannot be seen stands escaped.
 ";
 
 pub const COMMAND: Command = Command {
@@ -31,23 +36,44 @@ fn run(args: &Args, out: &mut dyn Write) -> Result<(), Failure> {
         let text = format!("{} holds no files\n", words::shown(path));
         return output::show(out, text.as_bytes());
     }
+    let marked = marked_blocks(&mut drive, &files)?;
     let size = drive.block_size();
     let width = files.iter().map(|f| names::width(&f.name())).max();
     let width = width.unwrap_or(0).max("name".len());
     let heading = ["number", "name", "bytes", "blocks", "position", ""];
     let mut text = row(width, heading.map(String::from));
-    for (index, file) in files.iter().enumerate() {
+    for (index, (file, marked)) in files.iter().zip(marked).enumerate() {
         let cells = [
             (index + 1).to_string(),
             file.name(),
             file.length().map_or("-".into(), |n| n.to_string()),
             file.blocks.to_string(),
             file.place.to_string(),
-            file.remark(size).to_string(),
+            remarks(file.remark(size), marked),
         ];
         text.push_str(&row(width, cells));
     }
     output::show(out, text.as_bytes())
+}
+
+/// How many blocks of each file are marked, found by reading them.
+fn marked_blocks(drive: &mut Drive, files: &[TapeFile]) -> Result<Vec<u32>, Failure> {
+    let blocks = files.iter().map(|file| u64::from(file.blocks)).sum();
+    let mut progress = Progress::new("reading", blocks);
+    let mut marked = Vec::new();
+    for file in files {
+        marked.push(reading::read(drive, file.whole(), &mut progress)?.marked);
+    }
+    Ok(marked)
+}
+
+fn remarks(remark: &str, marked: u32) -> String {
+    let of_marked = words::count(marked.into(), "marked block");
+    match (remark, marked) {
+        (remark, 0) => remark.into(),
+        ("", _) => of_marked,
+        (remark, _) => format!("{remark}; {of_marked}"),
+    }
 }
 
 fn row(width: usize, cells: [String; 6]) -> String {

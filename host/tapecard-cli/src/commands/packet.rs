@@ -22,8 +22,9 @@ usage: tapecard packet IMAGE [--device stream|floppy] [--record FILE] [--cold]
                              [--room BYTES] [BYTE..]
 
 Sends a packet of twelve hexadecimal bytes, or without bytes each line of
-standard input, and shows status, blocks, bytes, position and sense, and after
-MODE SELECT and MODE SENSE the speed: 250 where the drive was just switched on.
+standard input, and shows status, blocks (of a READ also how many are marked),
+bytes, position and sense, and after MODE SELECT and MODE SENSE the speed: 250
+where the drive was just switched on.
 A line may also be `change` (another cartridge was put in) or `quit`; # begins
 a comment.
 What a packet stored is on the disk before its answer is shown, so an interrupt

@@ -71,7 +71,7 @@ pub enum Fit {
 
 impl TapeFile {
     pub fn fit(&self, block_size: usize) -> Fit {
-        let there = u64::from(self.content().blocks);
+        let there = u64::from(self.content_blocks());
         match self.label.as_ref().map(|l| l.data_blocks(block_size)) {
             Some(told) if there < told => Fit::CutShort,
             Some(told) if there > told => Fit::TooLong,
@@ -102,13 +102,9 @@ impl TapeFile {
         }
     }
 
-    /// The blocks with the file's own bytes.
-    pub fn content(&self) -> Blocks {
-        let label = u32::from(self.label.is_some());
-        Blocks {
-            place: self.place + label,
-            blocks: self.blocks - label,
-        }
+    /// How many of its blocks hold the file's own bytes: all but a label.
+    pub fn content_blocks(&self) -> u32 {
+        self.blocks - u32::from(self.label.is_some())
     }
 
     /// All its blocks, a label among them.

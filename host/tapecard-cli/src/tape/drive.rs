@@ -32,15 +32,9 @@ pub enum Ended {
 /// What a packet did.
 pub struct Done {
     pub blocks: u32,
+    /// Of the blocks that a READ copied.
+    pub marked: u32,
     pub ended: Ended,
-}
-
-/// One kind of element.
-#[derive(Clone, Copy, Debug, PartialEq, Eq)]
-pub enum Kind {
-    Data,
-    Filemark,
-    Unreadable,
 }
 
 impl Drive {
@@ -71,6 +65,7 @@ impl Drive {
         let answer = packet(&mut self.record, &mut self.image, bytes, data)?;
         Ok(Done {
             blocks: answer.blocks,
+            marked: answer.marked,
             ended: Ended::of(&answer, &self.record.sense()),
         })
     }
@@ -96,25 +91,6 @@ impl Drive {
             self.position(),
             sense_words::sense(&self.record.sense())
         ))
-    }
-
-    /// The kinds of all recorded elements, found by reading them.
-    pub fn survey(&mut self, mut seen: impl FnMut(u64)) -> Result<Vec<Kind>, Failure> {
-        self.order(&packets::rewind())?;
-        let mut kinds = Vec::new();
-        let mut buffer = vec![0; CHUNK as usize * self.block_size];
-        loop {
-            let done = self.send(&packets::read(CHUNK), &mut buffer)?;
-            kinds.extend((0..done.blocks).map(|_| Kind::Data));
-            match done.ended {
-                Ended::Good => {}
-                Ended::Filemark => kinds.push(Kind::Filemark),
-                Ended::Unreadable => kinds.push(Kind::Unreadable),
-                Ended::EndOfData => return Ok(kinds),
-                _ => return Err(self.unexpected()),
-            }
-            seen(u64::from(done.blocks) + 1);
-        }
     }
 }
 

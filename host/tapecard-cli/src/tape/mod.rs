@@ -8,3 +8,4 @@ pub mod label;
 pub mod packets;
 pub mod reading;
 pub mod strip;
+pub mod survey;

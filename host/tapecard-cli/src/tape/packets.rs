@@ -9,10 +9,6 @@ pub fn test_unit_ready() -> Packet {
     packet(opcode::TEST_UNIT_READY, 0, 0)
 }
 
-pub fn rewind() -> Packet {
-    packet(opcode::REWIND, 0, 0)
-}
-
 pub fn request_sense() -> Packet {
     let mut bytes = packet(opcode::REQUEST_SENSE, 0, 0);
     bytes[4] = length::SENSE as u8;

@@ -17,12 +17,15 @@ pub struct Bytes {
     pub bytes: Vec<u8>,
     /// The places of the unreadable ones.
     pub missing: Vec<u32>,
+    /// How many of the others are marked.
+    pub marked: u32,
 }
 
 pub fn read(drive: &mut Drive, wanted: Blocks, progress: &mut Progress) -> Result<Bytes, Failure> {
     let size = drive.block_size();
     let mut bytes = vec![0; wanted.blocks as usize * size];
     let mut missing = Vec::new();
+    let mut marked = 0;
     let mut done = 0;
     drive.order(&packets::locate(wanted.place))?;
     while done < wanted.blocks {
@@ -30,6 +33,7 @@ pub fn read(drive: &mut Drive, wanted: Blocks, progress: &mut Progress) -> Resul
         let room = &mut bytes[done as usize * size..][..asked as usize * size];
         let read = drive.send(&packets::read(asked), room)?;
         done += read.blocks;
+        marked += read.marked;
         match read.ended {
             Ended::Good => {}
             Ended::Unreadable => {
@@ -40,5 +44,9 @@ pub fn read(drive: &mut Drive, wanted: Blocks, progress: &mut Progress) -> Resul
         }
         progress.advance(u64::from(asked.min(read.blocks + 1)));
     }
-    Ok(Bytes { bytes, missing })
+    Ok(Bytes {
+        bytes,
+        missing,
+        marked,
+    })
 }

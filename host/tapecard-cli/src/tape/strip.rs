@@ -1,6 +1,6 @@
 //! The tape as a strip of characters.
 
-use crate::tape::drive::Kind;
+use crate::tape::survey::Kind;
 
 /// Cells of a long tape; a shorter one has a cell for each element.
 const CELLS: usize = 64;
@@ -26,21 +26,25 @@ pub fn draw(tape: &Tape) -> Vec<String> {
     lines
 }
 
-/// What the characters and a cell stand for, a line each.
+/// What the characters and a cell stand for, a line each; marked blocks are told of where there are any.
 pub fn legend(tape: &Tape) -> Vec<String> {
-    if tape.capacity <= CELLS {
-        return vec![
-            "# data   | filemark   ! unreadable   . blank".into(),
-            "one cell for each element".into(),
-        ];
+    let long = tape.capacity > CELLS;
+    let mut lines = vec![if long {
+        "# data   | filemarks   + data and filemarks   ! some unreadable   . blank".into()
+    } else {
+        "# data   | filemark   ! unreadable   . blank".into()
+    }];
+    if tape.kinds.contains(&Kind::Marked) {
+        let marked = if long { "some marked" } else { "marked" };
+        lines.push(format!("* {marked}: data with a deleted address mark"));
     }
-    vec![
-        "# data   | filemarks   + data and filemarks   ! some unreadable   . blank".into(),
-        format!(
-            "one cell for about {:.0} elements",
-            tape.capacity as f64 / CELLS as f64
-        ),
-    ]
+    lines.push(if long {
+        let elements = tape.capacity as f64 / CELLS as f64;
+        format!("one cell for about {elements:.0} elements")
+    } else {
+        "one cell for each element".into()
+    });
+    lines
 }
 
 impl Tape<'_> {
@@ -48,13 +52,15 @@ impl Tape<'_> {
         self.capacity.min(CELLS)
     }
 
-    /// What a cell's elements are; one that is unreadable counts before all others.
+    /// What a cell's elements are; one that is unreadable counts before all others, then one that is marked: few blocks of a tape are
+    /// marked, and those are its headers.
     fn cell(&self, cell: usize) -> char {
         let first = self.first_of(cell).min(self.kinds.len());
         let beyond = self.first_of(cell + 1).min(self.kinds.len());
         let holds = |kind: Kind| self.kinds[first..beyond].contains(&kind);
         match (holds(Kind::Data), holds(Kind::Filemark)) {
             _ if holds(Kind::Unreadable) => '!',
+            _ if holds(Kind::Marked) => '*',
             (true, true) => '+',
             (false, true) => '|',
             (true, false) => '#',
@@ -85,7 +91,7 @@ impl Tape<'_> {
 #[cfg(test)]
 mod tests {
     use super::*;
-    use Kind::{Data, Filemark, Unreadable};
+    use Kind::{Data, Filemark, Marked, Unreadable};
 
     #[test]
     fn a_short_tape_has_a_cell_for_each_element() {
@@ -115,6 +121,39 @@ mod tests {
             let cell = tape.column_of(place);
             assert!(tape.first_of(cell) <= place && place < tape.first_of(cell + 1));
         }
+    }
+
+    #[test]
+    fn a_marked_block_has_a_character_of_its_own() {
+        let mut tape = Tape {
+            capacity: 6,
+            kinds: &[Marked, Data, Filemark, Unreadable, Marked],
+            warning: None,
+        };
+        assert_eq!(draw(&tape)[0], "  [*#|!*.]");
+        let told = "* marked: data with a deleted address mark";
+        assert_eq!(legend(&tape)[1], told);
+        tape.kinds = &[Data, Filemark, Unreadable];
+        assert_eq!(legend(&tape).len(), 2);
+    }
+
+    /// One marked block is seen among a thousand others, but for an unreadable one.
+    #[test]
+    fn a_long_tape_shows_where_a_marked_block_is() {
+        let mut kinds = vec![Data; 640];
+        kinds[15] = Marked;
+        kinds[16] = Filemark;
+        kinds[25] = Marked;
+        kinds[26] = Unreadable;
+        kinds[35] = Filemark;
+        let tape = Tape {
+            capacity: 640,
+            kinds: &kinds,
+            warning: None,
+        };
+        assert_eq!(draw(&tape)[0], format!("  [#*!+{}]", "#".repeat(60)));
+        let told = "* some marked: data with a deleted address mark";
+        assert_eq!(legend(&tape)[1], told);
     }
 
     #[test]

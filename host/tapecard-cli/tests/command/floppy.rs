@@ -455,7 +455,7 @@ fn random_packets_over_damaged_images() {
         let mut image = good.clone();
         for _ in 0..dice.throw(4) {
             let at = dice.throw(4) as usize;
-            image[32 + at] = dice.throw(3) as u8;
+            image[32 + at] = dice.throw(6) as u8;
         }
         image.truncate(image.len() - (dice.throw(5) / 4) as usize);
         place.write("t.img", &image);

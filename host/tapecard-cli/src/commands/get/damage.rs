@@ -29,7 +29,7 @@ pub fn found(file: &TapeFile, read: &Bytes, raw: bool, block_size: usize) -> Vec
 
 fn misfit(file: &TapeFile, fit: Fit, block_size: usize) -> Option<String> {
     let told = file.label.as_ref()?.data_blocks(block_size);
-    let there = u64::from(file.content().blocks);
+    let there = u64::from(file.content_blocks());
     let counts = format!(
         "its label tells of {} and there {} {there}",
         words::count(told, "block"),

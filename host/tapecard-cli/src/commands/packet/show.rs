@@ -39,7 +39,11 @@ pub fn answer(
 ) -> Result<(), Failure> {
     let status = sense_words::status(answer.status);
     writeln!(out, "  status    {} {status}", answer.status)?;
-    writeln!(out, "  blocks    {}", answer.blocks)?;
+    let marked = match answer.marked {
+        0 => String::new(),
+        marked => format!(", {marked} marked"),
+    };
+    writeln!(out, "  blocks    {}{marked}", answer.blocks)?;
     writeln!(out, "  bytes     {}", answer.bytes)?;
     writeln!(out, "  position  {}", device.position())?;
     if let Some(tape) = device.tape() {
