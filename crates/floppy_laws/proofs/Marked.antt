@@ -1,28 +1,25 @@
 -- Marked blocks: READ counts those that it copies, and no other command tells of any.
 -- Assumes nothing.
-use Prim.Native.Nat.{ℕ, _+_, _≤_}
-use native.Mathlib.Omega.{arith}
+use Prim.Native.Nat.{ℕ}
 use mathlib.Core.List.{List}
 use mathlib.Core.Path.{_≡_, refl}
-use lib.ListN.{length}
 use Rattle.image.specs.declared.header.Header.{Header}
-use Rattle.image.specs.declared.header.Judged.the-variants.{Good}
-use Rattle.image.specs.Header.{headerOf}
-use Rattle.image.proofs.HeaderLaws.{good-header, sound}
+use Rattle.image.specs.Header.{fieldsOf}
+use Rattle.image.proofs.HeaderLaws.{good-header}
 use Rattle.opcodes.specs.declared.Command.{Command}
 use Rattle.opcodes.specs.declared.Command.the-variants.{Unknown, TestUnitReady, Rewind, RequestSense, Read, Write, WriteFilemarks, Space, Inquiry}
 use Rattle.opcodes.specs.declared.Command.the-variants.{ModeSelect, ModeSense, LoadUnload, Locate, ReadPosition}
-use Rattle.transfer.specs.Marked.{markedFrom}
-use Rattle.transfer.proofs.ReadLaws.{read-few}
 use Rattle.packet_state.specs.declared.state.Outcome.{Outcome}
 use Rattle.packet_state.specs.declared.state.State.{State}
 use Rattle.packet_parts.specs.declared.requests.Request.{Request}
 use Rattle.packet_parts.specs.Replies.{replyEnds}
 use Rattle.packet_work.specs.Settings.{loadWork}
-use Rattle.packet_laws.specs.Words.{blocksOf, markedOf}
-use Rattle.packet_laws.proofs.Endings.{ends-is, ends-unmarked}
-use Rattle.packet_laws.proofs.Marked.{CountsMarked, marked-counted as any-device}
+use Rattle.packet_laws.specs.Words.{markedOf}
+use Rattle.packet_laws.proofs.Endings.{ends-unmarked}
+use Rattle.packet_laws.proofs.Marked.{CountsMarked, read-counts, read-within, marked-counted as any-device}
 use Rattle.floppy_parts.specs.declared.tape.Tape.{Tape}
+use Rattle.floppy_parts.specs.Requests.{blocksAsked}
+use Rattle.floppy_parts.specs.Tape.{product}
 use Rattle.floppy_parts.proofs.FullLaws.{full-image}
 use Rattle.floppy_parts.proofs.RuledLaws.{ruled-of}
 use Rattle.floppy.specs.Packet.{floppyDevice}
@@ -30,18 +27,6 @@ use Rattle.floppy.specs.Work.{readEnds, readWork, writeEnds, writeWork, workOf}
 use Rattle.floppy_laws.specs.Demands.{MarkedCounted}
 use Rattle.floppy_laws.proofs.Refusals.{working}
 use Rattle.floppy_laws.proofs.Selecting.{Selected, speed-set, speed-wrong, tape-set, tape-wrong, nothing-set, selected}
-
-module _ (s : List ℕ) (h : Header) (end : ℕ) (st : State) (n : ℕ) (buf : List ℕ) where
-  read-within : headerOf s ≡ Good h → end ≤ h .capacity → st .position ≤ end → h .kinds + (st .position + blocksOf (readWork s h end st n buf)) ≤ length s
-  unfolding readWork readEnds
-  read-within good e l =
-      let g = sound s h good in
-      let f = read-few s (h .size) (h .kinds) (h .blocks) end n 0 (st .position) buf l in
-      rw ends-is (omega arith)
-
-  read-counts : markedOf (readWork s h end st n buf) ≡ markedFrom s (h .kinds) (blocksOf (readWork s h end st n buf)) (st .position)
-  unfolding readWork readEnds
-  read-counts = rw ends-is
 
 module _ (s : List ℕ) (h : Header) (st : State) (t : Tape) (q : Request) (buf : List ℕ) where
   list-unmarked : {out : Outcome} {tape : Tape} → Selected h st t buf (q .length) out tape → out .answer .marked ≡ 0
@@ -69,13 +54,13 @@ module _ (s : List ℕ) (h : Header) (st : State) (t : Tape) (q : Request) (buf 
   unmarked ReadPosition n = ends-unmarked _ _ _ _
 
 counts-marked : CountsMarked floppyDevice
-unfolding workOf
+unfolding workOf readWork readEnds
 counts-marked =
     record {
-      within = λ s f packet buf p l c.
+      within = λ s f packet buf p c.
           let r = ruled-of _ _ (p .ruly) in
-          rw c (read-within s _ _ (f .shared) _ buf (good-header s (full-image s (p .good) .0)) (r .within) (r .place));
-      counts = λ s h f q buf c. rw c (read-counts s h _ (f .shared) _ buf);
+          rw c (read-within s (fieldsOf s) _ (f .shared) _ buf _ (good-header s (full-image s (p .good) .0)) (r .within) (r .place));
+      counts = λ s h f q buf c. rw c (read-counts s h (product (f .tape)) (f .shared) (blocksAsked q) buf _);
       others = λ s h f q buf n. unmarked s h (f .shared) (f .tape) q buf (q .command) n;
     }
 

@@ -12,12 +12,12 @@ use lib.ListN.{length}
 use Rattle.numbers.specs.Over.{part}
 use Rattle.numbers.proofs.Cases.{test}
 use Rattle.image.specs.declared.elements.Kind.{Kind}
-use Rattle.image.specs.declared.elements.Kind.the-variants.{Data, Marked}
+use Rattle.image.specs.declared.elements.Kind.the-variants.{Data}
 use Rattle.image.specs.declared.header.Header.{Header}
-use Rattle.image.specs.Elements.{holdsData, blockAt}
+use Rattle.image.specs.Elements.{blockAt}
 use Rattle.image.specs.Header.{fieldsOf}
 use Rattle.image.specs.Sameness.{Outside}
-use Rattle.image.proofs.HeaderLaws.{fields-are, good-header, is-block-of}
+use Rattle.image.proofs.HeaderLaws.{fields-are, good-header, block-kept}
 use Rattle.opcodes.specs.declared.Command.the-variants.{Read, Write}
 use Rattle.transfer.specs.Reading.{readFrom}
 use Rattle.transfer.proofs.BlockLaws.{moved-blocks}
@@ -66,8 +66,8 @@ module _ (kind : Kind) (i : ℕ) (bytes : List ℕ) (s : List ℕ) (f : Floppy) 
       let w = accepted-leaves s f packet buf e in
       ⊎-elim (λ c.
       let k = w .others i (block .0 .before) (outside c) in
-      is-block-of kind (ap holdsData (sym (block .1)) ∙ block .0 .holds) _ (x .image) (fieldsOf s) i bytes
-      (w .header) (rw (fields-are _ _ (w .header)) (block .0 .before)) (k .kind ∙ block .1) (k .bytes ∙ block .0 .same))
+      block-kept kind _ _ s (x .image) (fieldsOf s) i bytes block
+      (w .header) (rw (fields-are _ _ (w .header)) (block .0 .before)) (k .kind) (k .bytes))
       (λ z. same-image z) (w .stored)
 
   still-block : IsDataAs kind (x .image) i bytes
@@ -129,5 +129,5 @@ pub reads-back : ReadsBack
 reads-back =
     record {
       written = λ s f packet buf b c j n. reads-back-as Data (placeOf f + j) _ _ _ (blocks-stored s f packet buf b c j n);
-      marked = reads-back-as Marked;
+      recorded = reads-back-as;
     }

@@ -2,13 +2,14 @@
 -- Assumes nothing.
 use Prim.Native.Nat.{ℕ, _+_, _*_, _≤_, _<_}
 use mathlib.Core.Bool.{true, false}
-use mathlib.Core.List.{List}
+use mathlib.Core.List.{List, _∷_}
 use mathlib.Core.Logic.{_↔_}
 use mathlib.Core.Path.{_≡_}
 use lib.ListN.{getD, replicate}
 use Rattle.numbers.specs.Member.{isIn}
 use Rattle.numbers.specs.Outcomes.{Settles}
 use Rattle.numbers.specs.Over.{part}
+use Rattle.image.specs.declared.elements.Kind.{Kind}
 use Rattle.image.specs.declared.elements.Kind.the-variants.{Data, Marked}
 use Rattle.image.specs.Header.{fieldsOf, headerLength}
 use Rattle.opcodes.specs.declared.Command.the-variants.{Read, Write, ModeSelect, LoadUnload, Locate}
@@ -132,14 +133,14 @@ BlocksStored =
     → (j : ℕ) → j < blocksOf (floppyStep s f packet buf)
     → IsDataAs Data (floppyStep s f packet buf .image) (placeOf f + j) (part buf (j * fieldsOf s .size) (fieldsOf s .size))
 
--- A written block reads back the same until something is stored at its own place: nothing before it harms it here. 02, A6: a marked block of the image stays
--- so too, mark and bytes.
+-- A written block reads back the same until something is stored at its own place: nothing before it harms it here. So does a data block
+-- that is in the image, a marked one as marked.
 pub record ReadsBack : Type 0 where
   pub written : (s : List ℕ) (f : Floppy) (packet buf : List ℕ) → BeginsWork s f packet buf → floppyRequest packet .command ≡ Write
       → (j : ℕ) → j < blocksOf (floppyStep s f packet buf)
       → ReadsBackAs Data (placeOf f + j) (part buf (j * fieldsOf s .size) (fieldsOf s .size))
       (floppyStep s f packet buf .image) (floppyStep s f packet buf .state)
-  pub marked : (i : ℕ) (bytes s : List ℕ) (f : Floppy) → IsDataAs Marked s i bytes → ReadsBackAs Marked i bytes s f
+  pub recorded : (kind : Kind) (i : ℕ) (bytes s : List ℕ) (f : Floppy) → IsDataAs kind s i bytes → ReadsBackAs kind i bytes s f
 
 -- "a write leaves U": no packet moves U or any other byte of the header.
 pub record RecordedKept : Type 0 where
@@ -207,11 +208,12 @@ SpeedPlates =
     SpeedPlatesOf floppyDevice (image 0) (freshFloppy (image 0) (floppyOf (withSpeed (standing 3) 0) (resetTape 4)) .state)
     (λ f. changedFloppy (image 0) f .state)
 
--- 02, A6: READ and WRITE over marked blocks, and "WRITE still stores kind 1." whether WDAM is clear or set.
+-- 02, A6: READ and WRITE over marked blocks, and "WRITE still stores kind 1." whether WDAM is clear or set; "Its residue on an unreadable block leaves out the
+-- block in error": 0 of 4.
 pub record MarkedPlates : Type 0 where
-  pub clear : allMarkedAgree floppyDevice placed markedPlates ≡ true
+  pub clear : allMarkedAgree floppyDevice placed (markedPlates 0) ≡ true
   pub deleting : placedDeleting 0 .tape .reported .deleted ≡ true
-  pub set : allMarkedAgree floppyDevice placedDeleting markedPlates ≡ true
+  pub set : allMarkedAgree floppyDevice placedDeleting (markedPlates 0) ≡ true
 
 -- What is asked above can be so: a READ and a WRITE that begin and move a block, a list of 28 bytes that is taken and one that is not, a marked block.
 pub record WorkBegins : Type 0 where
@@ -219,4 +221,4 @@ pub record WorkBegins : Type 0 where
   pub write : BeginsAndMoves (placed 3) (sent 0x0a 1 0 0 2 0 0)
   pub taken : BeginsWork (image 0) (placed 3) select (listOf 1 2 1) × TakesList (fieldsOf (image 0)) (listOf 1 2 1)
   pub left : BeginsWork (image 0) (placed 3) select (listOf 1 5 1) × (TakesList (fieldsOf (image 0)) (listOf 1 5 1) → ⊥)
-  pub marked : IsDataAs Marked markedImage 0 (replicate 512 7)
+  pub marked : IsDataAs Marked markedImage 0 (0xa0 ∷ replicate 511 7)

@@ -26,6 +26,6 @@ pub data Later (i : ℕ) (s : List ℕ) (f : Floppy) : List ℕ → Floppy → T
   -- the record is replaced: by a cartridge change, by a fresh record, or by what packets to other cartridges left
   replaced : {s' : List ℕ} {f' : Floppy} (f'' : Floppy) → Later i s f s' f' → Later i s f s' f''
 
--- element i keeps this kind and these bytes through every such history, and every READ that moves it gives them
+-- element i keeps this kind and these bytes through every such history, and every READ that moves it gives the bytes
 abbrev pub ReadsBackAs : Kind → ℕ → List ℕ → List ℕ → Floppy → Type 0
 ReadsBackAs kind i bytes s f = (s' : List ℕ) (f' : Floppy) → Later i s f s' f' → IsDataAs kind s' i bytes × EveryReadGives s' f' i bytes

@@ -161,6 +161,13 @@ pub is-block-of : (kind : Kind) → holdsData kind ≡ true → (end : ℕ) (s :
     → kindAt s (h .kinds) i ≡ kind → blockAt s (h .size) (h .blocks) i ≡ bytes → IsBlockOf kind end s i bytes
 is-block-of kind d end s h i bytes g l k b = (is-block end s h i bytes g l (ap holdsData k ∙ d) b, rw (fields-are s h g) k)
 
+-- a block of s is one of t, whose header is known, where the element is the same
+pub block-kept : (kind : Kind) (end end' : ℕ) (s t : List ℕ) (h : Header) (i : ℕ) (bytes : List ℕ) → IsBlockOf kind end s i bytes → headerOf t ≡ Good h
+    → i < end' → kindAt t (h .kinds) i ≡ kindAt s (fieldsOf s .kinds) i
+    → blockAt t (h .size) (h .blocks) i ≡ blockAt s (fieldsOf s .size) (fieldsOf s .blocks) i → IsBlockOf kind end' t i bytes
+block-kept kind end end' s t h i bytes block g l k b =
+    is-block-of kind (ap holdsData (sym (block .1)) ∙ block .0 .holds) end' t h i bytes g l (k ∙ block .1) (b ∙ block .0 .same)
+
 pub good-by : (s : List ℕ) (h : Header) → fieldsOf s ≡ h → Each (fixedBytes s) → Each (fieldRanges h) → Each (placeRules h (length s)) → headerOf s ≡ Good h
 unfolding headerOf keepsHeaderRules
 good-by s h e f r p = rw (e, pass (fixedBytes s) f, pass (fieldRanges h) r, pass (placeRules h (length s)) p)

@@ -27,11 +27,11 @@ use Rattle.image.specs.Sameness.{Outside}
 use Rattle.image.proofs.HeaderLaws.{sound, fields-are, each-fixed, each-range, each-place, good-by, header-same}
 
 -- the code's laying is the definition's
-pub laid-so : (s : List ℕ) (size kinds blocks i a k off : ℕ) (src ys : List ℕ) → a ≡ blocks + i * size → k ≡ kinds + i
-    → ys ≡ over (midOf a (length s - a) s) 0 (midOf off (off + size - off) src)
-    → set (putMid a (length s - a) s ys) k 1 ≡ layBlock s size kinds blocks i (part src off size)
+pub laid-so : (s : List ℕ) (size kinds blocks i a k off : ℕ) (src ys new : List ℕ) → a ≡ blocks + i * size → k ≡ kinds + i
+    → ys ≡ over (midOf a (length s - a) s) 0 (midOf off (off + size - off) src) → new ≡ set (putMid a (length s - a) s ys) k 1
+    → new ≡ layBlock s size kinds blocks i (part src off size)
 unfolding layBlock
-laid-so s size kinds blocks i a k off src ys q r e = rw (copied-over a off size s src ys e, q, r)
+laid-so s size kinds blocks i a k off src ys new q r e f = rw (f, copied-over a off size s src ys e, q, r)
 
 apart : (j i : ℕ) → (j ≡ i → ⊥) → (j < i) ⊎ (i < j)
 apart j i n = test (ltb j i) (λ e. inl (ltb-true j i e)) (λ e. let g = ltb-false j i e in inr (omega (arith, n)))

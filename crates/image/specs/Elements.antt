@@ -42,6 +42,7 @@ isFilemark Filemark = true
 isFilemark Unreadable = false
 isFilemark Marked = false
 
+-- 02, A6: "how many of the blocks copied were marked"
 abbrev pub isMarked : Kind → Bool
 isMarked Data = false
 isMarked Filemark = false

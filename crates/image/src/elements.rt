@@ -1,7 +1,7 @@
 // 01: "Element i has its kind at K + i and its bytes at D + i*B."
 ghost use mathlib.Core.Path.{_≡_};
 ghost use Prim.Native.Nat.{_+_, _*_, _<_, _≤_};
-ghost use lib.ListN.{length};
+ghost use lib.ListN.{length, set};
 ghost use Rattle.numbers.specs.Over.{part};
 ghost use Rattle.image.specs.Elements.{holdsData, isFilemark, isMarked, kindAt, layBlock, layMark, recordTo};
 use crate::header::span;
@@ -80,6 +80,14 @@ pub fn is_marked(kind: Kind) -> bool
     }
 }
 
+// The one place where a kind is stored, whatever it was before: 02, A6: "WRITE still stores kind 1."
+fn put_kind(image: &mut [u8], place: usize, kind: u8)
+    requires { ⌜ place < length (now image) ⌝ }
+    ensures { λ _. ⌜ now (image .exit) ≡ set (now (image .entry)) place kind ⌝ }
+{
+    image[place] = kind;
+}
+
 // The block that stands in src from place off on becomes element i.
 pub fn lay_block(
     image: &mut [u8],
@@ -100,7 +108,7 @@ pub fn lay_block(
     let from = block_place(blocks, i, size);
     let to = off + size as usize;
     copy_block(&mut image[from..], &src[off..to]);
-    image[kind_place(kinds, i)] = DATA;
+    put_kind(image, kind_place(kinds, i), DATA);
 }
 
 // A filemark becomes element i; no block's bytes change.
@@ -108,7 +116,7 @@ pub fn lay_mark(image: &mut [u8], kinds: u32, i: u32)
     requires { ⌜ kinds + i < length (now image) ⌝ }
     ensures { λ _. ⌜ now (image .exit) ≡ layMark (now (image .entry)) kinds i ⌝ }
 {
-    image[kind_place(kinds, i)] = FILEMARK;
+    put_kind(image, kind_place(kinds, i), FILEMARK);
 }
 
 // Where a run from place p stored something, the elements up to its new place are those recorded.

@@ -1,20 +1,21 @@
 -- What plates of any packet device are made of: an image, a record, a packet, and what must come; and the plates of 02, A2 and A6.
 -- Assumes nothing.
-use Prim.Native.Nat.{ℕ}
+use Prim.Native.Nat.{ℕ, _*_}
 use mathlib.Core.Bool.{Bool, true, false, _&&_}
 use mathlib.Core.List.{List, [], _∷_, _++_}
 use mathlib.Core.Path.{_≡_}
-use lib.ListN.{replicate}
-use Rattle.numbers.specs.Choice.{_≡ᵇ_}
+use lib.ListN.{replicate, set, getD}
+use Rattle.numbers.specs.Choice.{if_then_else_, _≡ᵇ_}
 use Rattle.numbers.specs.Counts.{countBytes}
 use Rattle.numbers.specs.Over.{part}
 use Rattle.packet_state.specs.declared.state.Attention.the-variants.{Nothing}
 use Rattle.packet_state.specs.declared.state.State.{State}
 use Rattle.packet_state.specs.States.{atPlace, withAttention, freshState}
-use Rattle.packet_parts.specs.Answers.{Left}
+use Rattle.packet_parts.specs.Answers.{Left, goodStatus, checkCondition}
+use Rattle.packet_parts.specs.Replies.{senseBytes}
 use Rattle.packet_parts.specs.Shell.{Device, answersTo}
 use Rattle.packet_work.specs.Settings.{goodList}
-use Rattle.packet_laws.specs.Words.{numberOf, blocksOf, markedOf, AsksSpeed, SendsSpeed}
+use Rattle.packet_laws.specs.Words.{numberOf, statusOf, blocksOf, bytesOf, markedOf, AsksSpeed, SendsSpeed}
 
 -- 01: "Image C 4, B 512", with this W, this U and these four kinds
 abbrev pub plateImage : ℕ → ℕ → List ℕ → List ℕ
@@ -86,13 +87,18 @@ module _ {R : Type 0} (d : Device R) (s : List ℕ) where
     pub asks : AsksSpeed d s (attended fresh) askSpeed (replicate 32 9)
     pub sends : SendsSpeed d s (attended fresh) sendSpeed (speedList 0) × (goodList (speedList 0) ≡ true)
 
+-- CHECK CONDITION with a sense, GOOD with none
+abbrev pub statusBeside : List ℕ → ℕ
+statusBeside told = if same told (senseOf 0x70 0 0 0 0) then goodStatus else checkCondition
+
 -- ---- 02, A6, worked out by hand: blocks with a deleted mark
 
--- C 4, B 512, W 0, U 4: a marked block, a plain one, a marked one, an unreadable one
+-- C 4, B 512, W 0, U 4: a marked block, a plain one, a marked one, an unreadable one; they begin with A0, B0, C0 and D0
 abbrev pub markedImage : List ℕ
-markedImage = plateImage 0 4 (4 ∷ 1 ∷ 4 ∷ 3 ∷ [])
+markedImage = set (set (set (set (plateImage 0 4 (4 ∷ 1 ∷ 4 ∷ 3 ∷ [])) 36 0xa0) 548 0xb0) 1060 0xc0) 1572 0xd0
 
--- what is sent at a place; and what must come: blocks, how many of them marked, P and the kinds of the image
+-- what is sent at a place; and what must come: blocks, how many of them marked, P, the kinds of the image, the first bytes of the four blocks of the buffer, and
+-- those that 03h would give
 pub record MarkedPlate : Type 0 where
   pub before : ℕ
   pub packet : List ℕ
@@ -100,41 +106,59 @@ pub record MarkedPlate : Type 0 where
   pub marked : ℕ
   pub place : ℕ
   pub kinds : List ℕ
+  pub given : List ℕ
+  pub sense : List ℕ
 
 -- a plate in one line
-infix 80 at_send_blocks_marked_P_kinds_
-abbrev pub at_send_blocks_marked_P_kinds_ : ℕ → List ℕ → ℕ → ℕ → ℕ → List ℕ → MarkedPlate
-at p send packet blocks n marked m P p' kinds k = record { before = p; packet = packet; blocks = n; marked = m; place = p'; kinds = k }
+infix 80 at_send_blocks_marked_P_kinds_gives_sense_
+abbrev pub at_send_blocks_marked_P_kinds_gives_sense_ : ℕ → List ℕ → ℕ → ℕ → ℕ → List ℕ → List ℕ → List ℕ → MarkedPlate
+at p send packet blocks n marked m P p' kinds k gives g sense x =
+    record { before = p; packet = packet; blocks = n; marked = m; place = p'; kinds = k; given = g; sense = x }
 
-abbrev pub markedPlates : List MarkedPlate
-markedPlates =
+-- the kinds as they were, a buffer that was not filled, and no sense
+abbrev pub asBefore : List ℕ
+asBefore = 4 ∷ 1 ∷ 4 ∷ 3 ∷ []
+
+abbrev pub unfilled : List ℕ
+unfilled = 9 ∷ 9 ∷ 9 ∷ 9 ∷ []
+
+abbrev pub nothingTold : List ℕ
+nothingTold = senseOf 0x70 0 0 0 0
+
+-- of a device whose residue is this where a READ of 4 has copied 3
+abbrev pub markedPlates : ℕ → List MarkedPlate
+markedPlates residue =
     -- "a READ's answer also says how many of the blocks copied were marked": READ 1, READ 3
-    at 0 send (sent 0x08 1 0 0 1 0 0) blocks 1 marked 1 P 1 kinds (4 ∷ 1 ∷ 4 ∷ 3 ∷ [])
-    ∷ at 0 send (sent 0x08 1 0 0 3 0 0) blocks 3 marked 2 P 3 kinds (4 ∷ 1 ∷ 4 ∷ 3 ∷ [])
-    -- READ 4 stops at the unreadable block and passes it
-    ∷ at 0 send (sent 0x08 1 0 0 4 0 0) blocks 3 marked 2 P 4 kinds (4 ∷ 1 ∷ 4 ∷ 3 ∷ [])
+    at 0 send (sent 0x08 1 0 0 1 0 0) blocks 1 marked 1 P 1 kinds asBefore gives (0xa0 ∷ 9 ∷ 9 ∷ 9 ∷ []) sense nothingTold
+    ∷ at 0 send (sent 0x08 1 0 0 3 0 0) blocks 3 marked 2 P 3 kinds asBefore gives (0xa0 ∷ 0xb0 ∷ 0xc0 ∷ 9 ∷ []) sense nothingTold
+    -- READ 4 stops at the unreadable block and passes it: 3/11/00
+    ∷ at 0 send (sent 0x08 1 0 0 4 0 0) blocks 3 marked 2 P 4 kinds asBefore gives (0xa0 ∷ 0xb0 ∷ 0xc0 ∷ 9 ∷ []) sense (senseOf 0xf0 0x03 residue 0x11 0)
     -- a plain block, and with the marked one after it
-    ∷ at 1 send (sent 0x08 1 0 0 1 0 0) blocks 1 marked 0 P 2 kinds (4 ∷ 1 ∷ 4 ∷ 3 ∷ [])
-    ∷ at 1 send (sent 0x08 1 0 0 2 0 0) blocks 2 marked 1 P 3 kinds (4 ∷ 1 ∷ 4 ∷ 3 ∷ [])
+    ∷ at 1 send (sent 0x08 1 0 0 1 0 0) blocks 1 marked 0 P 2 kinds asBefore gives (0xb0 ∷ 9 ∷ 9 ∷ 9 ∷ []) sense nothingTold
+    ∷ at 1 send (sent 0x08 1 0 0 2 0 0) blocks 2 marked 1 P 3 kinds asBefore gives (0xb0 ∷ 0xc0 ∷ 9 ∷ 9 ∷ []) sense nothingTold
     -- "WRITE still stores kind 1.": over a marked block
-    ∷ at 2 send (sent 0x0a 1 0 0 1 0 0) blocks 1 marked 0 P 3 kinds (4 ∷ 1 ∷ 1 ∷ 3 ∷ [])
+    ∷ at 2 send (sent 0x0a 1 0 0 1 0 0) blocks 1 marked 0 P 3 kinds (4 ∷ 1 ∷ 1 ∷ 3 ∷ []) gives unfilled sense nothingTold
     -- another packet says 0: TEST UNIT READY at a marked block
-    ∷ at 2 send (sent 0x00 0 0 0 0 0 0) blocks 0 marked 0 P 2 kinds (4 ∷ 1 ∷ 4 ∷ 3 ∷ [])
+    ∷ at 2 send (sent 0x00 0 0 0 0 0 0) blocks 0 marked 0 P 2 kinds asBefore gives unfilled sense nothingTold
     ∷ []
 
--- "SPACE counts it as a block", where a device has it: SPACE 3 blocks on and 2 back, over a marked block, a plain one and a marked one
+-- "SPACE counts it as a block", where a device has it: SPACE 3 blocks on and 2 back, over a marked block, a plain one and a marked one; SPACE 1 filemark, which
+-- finds none: 8/00/05
 abbrev pub markedSpaces : List MarkedPlate
 markedSpaces =
-    at 0 send (sent 0x11 0 0 0 3 0 0) blocks 0 marked 0 P 3 kinds (4 ∷ 1 ∷ 4 ∷ 3 ∷ [])
-    ∷ at 3 send (sent 0x11 0 0xff 0xff 0xfe 0 0) blocks 0 marked 0 P 1 kinds (4 ∷ 1 ∷ 4 ∷ 3 ∷ [])
+    at 0 send (sent 0x11 0 0 0 3 0 0) blocks 0 marked 0 P 3 kinds asBefore gives unfilled sense nothingTold
+    ∷ at 3 send (sent 0x11 0 0xff 0xff 0xfe 0 0) blocks 0 marked 0 P 1 kinds asBefore gives unfilled sense nothingTold
+    ∷ at 0 send (sent 0x11 1 0 0 1 0 0) blocks 0 marked 0 P 4 kinds asBefore gives unfilled sense (senseOf 0xf0 0x08 1 0 5)
     ∷ []
 
 module _ {R : Type 0} (d : Device R) (placed : ℕ → R) where
   -- what came is what the plate says
   abbrev pub markedAgrees : MarkedPlate → Left R → Bool
   markedAgrees p x =
-      (numberOf x ≡ᵇ 0) && (blocksOf x ≡ᵇ p .blocks) && (markedOf x ≡ᵇ p .marked) && (d .shared (x .state) .position ≡ᵇ p .place)
-      && same (part (x .image) 32 4) (p .kinds)
+      (numberOf x ≡ᵇ 0) && (statusOf x ≡ᵇ statusBeside (p .sense)) && (blocksOf x ≡ᵇ p .blocks) && (bytesOf x ≡ᵇ p .blocks * 512)
+      && (markedOf x ≡ᵇ p .marked) && (d .shared (x .state) .position ≡ᵇ p .place) && same (part (x .image) 32 4) (p .kinds)
+      && same (getD (x .buf) 0 0 ∷ getD (x .buf) 512 0 ∷ getD (x .buf) 1024 0 ∷ getD (x .buf) 1536 0 ∷ []) (p .given)
+      && same (senseBytes (d .shared (x .state) .sense)) (p .sense)
 
   -- each plate of the table, with a buffer of four blocks
   abbrev pub allMarkedAgree : List MarkedPlate → Bool

@@ -1,4 +1,5 @@
--- What every packet device promises, one named type each; proofs/ proves them of any device whose work refuses nothing, the last where it keeps the speed.
+-- What every packet device promises, one named type each; proofs/ proves them of any device whose work refuses nothing, the fifth where it keeps the speed, the
+-- sixth where its READ counts the marked blocks.
 -- Assumes nothing.
 use Prim.Native.Nat.{ℕ, _+_}
 use mathlib.Core.Bool.{true}

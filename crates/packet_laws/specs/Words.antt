@@ -6,7 +6,6 @@ use mathlib.Core.List.{List, [], _∷_}
 use mathlib.Core.Path.{_≡_}
 use lib.ListN.{length}
 use Rattle.numbers.specs.Choice.{if_then_else_, _≡ᵇ_}
-use Rattle.image.specs.Elements.{markedKind}
 use Rattle.image.specs.Header.{fieldsOf, brokenImage}
 use Rattle.opcodes.specs.declared.Command.{Command}
 use Rattle.opcodes.specs.declared.Command.the-variants.{Unknown, TestUnitReady, Rewind, RequestSense, Read, Write, WriteFilemarks, Space, Inquiry}
@@ -56,14 +55,14 @@ gives LoadUnload = false
 gives Locate = false
 gives ReadPosition = true
 
--- 02, A6: how many of these bytes of a kind table are 4, "data, marked"
+-- how many of these bytes of a kind table are 4: 02, A6: "Kind 4 becomes "data, marked"."
 abbrev pub markedAmong : List ℕ → ℕ
 markedAmong [] = 0
-markedAmong (x ∷ xs) = (if x ≡ᵇ markedKind then 1 else 0) + markedAmong xs
+markedAmong (x ∷ xs) = (if x ≡ᵇ 4 then 1 else 0) + markedAmong xs
 
 -- ---- refusals
 
--- 01: "A refusal returns its number, status 0, 0 blocks and bytes .., and alters nothing"; 02, A6: it tells of no marked block
+-- 01: "A refusal returns its number, status 0, 0 blocks and bytes .., and alters nothing"; it tells of no marked block either
 pub record Refusal {R : Type 0} (s : List ℕ) (st : R) (buf : List ℕ) (x : Left R) : Type 0 where
   pub status-zero : statusOf x ≡ 0
   pub no-blocks : blocksOf x ≡ 0

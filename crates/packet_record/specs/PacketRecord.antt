@@ -1,7 +1,7 @@
 -- The packet drive's record and answer in bytes. Numbers are big-endian; reserved bits and bytes are ignored and written as 0.
 -- Assumes nothing.
 use Prim.Native.Nat.{ℕ, _+_}
-use mathlib.Core.List.{List, [], _∷_, _++_}
+use mathlib.Core.List.{List, _∷_, _++_}
 use lib.ListN.{getD}
 use Rattle.numbers.specs.Choice.{if_then_else_, _≡ᵇ_}
 use Rattle.numbers.specs.Counts.{countAt, countBytes}

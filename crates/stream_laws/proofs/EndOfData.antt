@@ -41,7 +41,7 @@ use Rattle.stream_laws.specs.Demands.{EndOfDataEom}
 
 -- ---- the work of each command, now and before
 
--- READ, by its stop
+-- READ and SPACE, by their stop, with so many blocks told as marked
 ended : (c : Command) (h : Header) (st : State) (stop : Stop) (left blocks bytes marked : ℕ) (s buf : List ℕ) → readsOrSpaces c ≡ true
     → done (withMarked (ends st (endingOf h stop left) blocks bytes) marked) s buf
     ≡ carryingEom c h (done (withMarked (ends st (endingOf (withWarning h 0) stop left) blocks bytes) marked) s buf)
@@ -52,7 +52,7 @@ ended c h st AtBadBlock left blocks bytes marked s buf e = rw e
 ended c h st AtEnd left blocks bytes marked s buf e = rw e
 ended c h st AtBeginning left blocks bytes marked s buf e = rw e
 
--- and SPACE, which tells of no marked block
+-- SPACE tells of none
 spaced : (h : Header) (st : State) (stop : Stop) (left : ℕ) (s buf : List ℕ)
     → done (ends st (endingOf h stop left) 0 0) s buf ≡ carryingEom Space h (done (ends st (endingOf (withWarning h 0) stop left) 0 0) s buf)
 spaced h st stop left s buf =

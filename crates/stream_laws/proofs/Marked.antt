@@ -1,49 +1,33 @@
 -- Marked blocks: READ counts those that it copies, and no other command tells of any.
 -- Assumes nothing.
-use Prim.Native.Nat.{ℕ, _+_, _≤_}
-use native.Mathlib.Omega.{arith}
+use Prim.Native.Nat.{ℕ}
 use mathlib.Core.Bool.{not}
 use mathlib.Core.List.{List}
 use mathlib.Core.Path.{_≡_, refl}
 use lib.Dec.{eqb, ltb}
-use lib.ListN.{length}
 use Rattle.numbers.proofs.Cases.{either}
 use Rattle.image.specs.declared.header.Header.{Header}
-use Rattle.image.specs.declared.header.Judged.the-variants.{Good}
-use Rattle.image.specs.Header.{headerOf}
+use Rattle.image.specs.Header.{fieldsOf}
 use Rattle.image.proofs.HeaderLaws.{good-header, sound}
 use Rattle.opcodes.specs.declared.Command.{Command}
 use Rattle.opcodes.specs.declared.Command.the-variants.{Unknown, TestUnitReady, Rewind, RequestSense, Read, Write, WriteFilemarks, Space, Inquiry}
 use Rattle.opcodes.specs.declared.Command.the-variants.{ModeSelect, ModeSense, LoadUnload, Locate, ReadPosition}
-use Rattle.transfer.specs.Marked.{markedFrom}
-use Rattle.transfer.proofs.ReadLaws.{read-few}
 use Rattle.packet_state.specs.declared.state.Outcome.{Outcome}
 use Rattle.packet_state.specs.declared.state.State.{State}
 use Rattle.packet_state.proofs.RecordLaws.{ruly-of}
 use Rattle.packet_parts.specs.declared.requests.Request.{Request}
 use Rattle.packet_parts.specs.Replies.{fullList, replyEnds}
 use Rattle.packet_work.specs.Settings.{loadWork}
-use Rattle.packet_laws.specs.Words.{blocksOf, markedOf}
-use Rattle.packet_laws.proofs.Endings.{ends-is, ends-unmarked}
-use Rattle.packet_laws.proofs.Marked.{CountsMarked, speed-unmarked, marked-counted as any-device}
-use Rattle.stream_parts.specs.Requests.{requestOf, spaceCode, toEndOfData}
+use Rattle.packet_laws.specs.Words.{markedOf}
+use Rattle.packet_laws.proofs.Endings.{ends-unmarked}
+use Rattle.packet_laws.proofs.Marked.{CountsMarked, read-counts, read-within, speed-unmarked, marked-counted as any-device}
+use Rattle.stream_parts.specs.Requests.{spaceCode, toEndOfData}
 use Rattle.stream.specs.Packet.{streamDevice}
 use Rattle.stream.specs.Work.{readEnds, readWork, writeEnds, writeWork, markWork, spaceWork, selectWork, locateWork, workOf}
 use Rattle.stream_laws.specs.Demands.{MarkedCounted}
 use Rattle.stream_laws.proofs.Refusals.{working}
 
 module _ (s : List ℕ) (h : Header) (st : State) (q : Request) (buf : List ℕ) where
-  read-within : headerOf s ≡ Good h → st .position ≤ h .recorded → h .kinds + (st .position + blocksOf (readWork s h st (q .count) buf)) ≤ length s
-  unfolding readWork readEnds
-  read-within good l =
-      let g = sound s h good in
-      let f = read-few s (h .size) (h .kinds) (h .blocks) (h .recorded) (q .count) 0 (st .position) buf l in
-      rw ends-is (omega arith)
-
-  read-counts : markedOf (readWork s h st (q .count) buf) ≡ markedFrom s (h .kinds) (blocksOf (readWork s h st (q .count) buf)) (st .position)
-  unfolding readWork readEnds
-  read-counts = rw ends-is
-
   abbrev Unmarked : Outcome → Type 0
   Unmarked out = out .answer .marked ≡ 0
 
@@ -65,11 +49,13 @@ module _ (s : List ℕ) (h : Header) (st : State) (q : Request) (buf : List ℕ)
   unmarked ReadPosition n = ends-unmarked _ _ _ _
 
 counts-marked : CountsMarked streamDevice
-unfolding workOf
+unfolding workOf readWork readEnds
 counts-marked =
     record {
-      within = λ s st packet buf p l c. rw c (read-within s _ st (requestOf packet) buf (good-header s (p .good)) (ruly-of _ _ (p .ruly) .place));
-      counts = λ s h st q buf c. rw c (read-counts s h st q buf);
+      within = λ s st packet buf p c.
+          let good = good-header s (p .good) in
+          rw c (read-within s (fieldsOf s) _ st _ buf _ good (sound s _ good .recorded-within) (ruly-of _ _ (p .ruly) .place));
+      counts = λ s h st q buf c. rw c (read-counts s h (h .recorded) st (q .count) buf _);
       others = λ s h st q buf n. unmarked s h st q buf (q .command) n;
     }
 

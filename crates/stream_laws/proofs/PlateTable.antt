@@ -52,7 +52,7 @@ speed-plates =
 
 pub marked-plates : MarkedPlates
 unfolding answersTo decided carriedOut verdictBy foundFirst askedBy requestOf requestUnder isBack magnitude keepsRecordRules streamCommand
-    headerOf keepsHeaderRules fieldsOf allHold isIn kindOf kindAt blockAt layBlock recordTo stopAt readFrom markedFrom blocksOn blocksBack layFrom
+    headerOf keepsHeaderRules fieldsOf allHold isIn kindOf kindAt blockAt layBlock recordTo stopAt readFrom markedFrom blocksOn blocksBack marksOn layFrom
     ends endingOf readEnds readWork writeEnding writeEnds writeWork spaceRun spaceWork workOf
 marked-plates = (refl, refl)
 

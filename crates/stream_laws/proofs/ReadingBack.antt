@@ -10,12 +10,12 @@ use lib.ListN.{length}
 use Rattle.numbers.specs.Over.{part}
 use Rattle.numbers.proofs.Cases.{test}
 use Rattle.image.specs.declared.elements.Kind.{Kind}
-use Rattle.image.specs.declared.elements.Kind.the-variants.{Data, Marked}
+use Rattle.image.specs.declared.elements.Kind.the-variants.{Data}
 use Rattle.image.specs.declared.header.Header.{Header}
 use Rattle.image.specs.declared.header.Judged.the-variants.{Good}
-use Rattle.image.specs.Elements.{holdsData, blockAt}
+use Rattle.image.specs.Elements.{blockAt}
 use Rattle.image.specs.Header.{fieldsOf, headerOf, withRecorded}
-use Rattle.image.proofs.HeaderLaws.{fields-are, good-header, is-block-of, sound}
+use Rattle.image.proofs.HeaderLaws.{fields-are, good-header, block-kept, sound}
 use Rattle.opcodes.specs.declared.Command.the-variants.{Read}
 use Rattle.transfer.specs.Reading.{readFrom}
 use Rattle.transfer.proofs.BlockLaws.{moved-blocks}
@@ -59,8 +59,8 @@ module _ (kind : Kind) (i : ℕ) (bytes : List ℕ) (s : List ℕ) (st : State) 
       absurd (spared (record { a-store = p; some = omega arith; from = omega arith }))) (λ r.
       let l = leb-false _ _ r in
       let k = w .below i l in
-      is-block-of kind (ap holdsData (sym (block .1)) ∙ block .0 .holds) _ (x .image) (withRecorded (fieldsOf s) (w .u)) i bytes
-      (w .header) (rw (fields-are _ _ (w .header)) (omega (arith, w .reached))) (k .kind ∙ block .1) (k .bytes ∙ block .0 .same))))
+      block-kept kind _ _ s (x .image) (withRecorded (fieldsOf s) (w .u)) i bytes block
+      (w .header) (rw (fields-are _ _ (w .header)) (omega (arith, w .reached))) (k .kind) (k .bytes))))
       (λ p. same-image (w .no-store p))
 
   still-block : IsRecordedAs kind (x .image) i bytes
@@ -127,5 +127,5 @@ pub reads-back : ReadsBack
 reads-back =
     record {
       written = λ s st packet buf b c j n. reads-back-as Data (st .position + j) _ _ _ (blocks-stored s st packet buf b c j n);
-      marked = reads-back-as Marked;
+      recorded = reads-back-as;
     }

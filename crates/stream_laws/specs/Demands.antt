@@ -2,12 +2,13 @@
 -- Assumes nothing.
 use Prim.Native.Nat.{ℕ, _+_, _*_, _≤_, _<_}
 use mathlib.Core.Bool.{true, false}
-use mathlib.Core.List.{List}
+use mathlib.Core.List.{List, _∷_}
 use mathlib.Core.Path.{_≡_}
 use lib.ListN.{replicate}
 use Rattle.numbers.specs.Member.{isIn}
 use Rattle.numbers.specs.Outcomes.{Settles}
 use Rattle.numbers.specs.Over.{part}
+use Rattle.image.specs.declared.elements.Kind.{Kind}
 use Rattle.image.specs.declared.elements.Kind.the-variants.{Data, Filemark, Marked}
 use Rattle.image.specs.Header.{fieldsOf, keepsHeaderRules, withRecorded}
 use Rattle.opcodes.specs.declared.Command.the-variants.{Read, Write, WriteFilemarks, Locate}
@@ -205,13 +206,13 @@ abbrev pub NoneStored : Type 0
 NoneStored = (s : List ℕ) (st : State) (packet buf : List ℕ) → blocksOf (packetStep s st packet buf) ≡ 0 → packetStep s st packet buf .image ≡ s
 
 -- "A written block reads back the same until something is stored at or before its place": block j of a WRITE is element P + j, of kind 1 with its bytes,
--- through every later history, and every READ that moves it gives these bytes. 02, A6: a marked block of the image stays so too, mark and bytes.
+-- through every later history, and every READ that moves it gives these bytes. So does a data block that is in the image, a marked one as marked.
 pub record ReadsBack : Type 0 where
   pub written : (s : List ℕ) (st : State) (packet buf : List ℕ) → BeginsWork s st packet buf → requestOf packet .command ≡ Write
       → (j : ℕ) → j < blocksOf (packetStep s st packet buf)
       → ReadsBackAs Data (st .position + j) (part buf (j * fieldsOf s .size) (fieldsOf s .size))
       (packetStep s st packet buf .image) (packetStep s st packet buf .state)
-  pub marked : (i : ℕ) (bytes s : List ℕ) (st : State) → IsRecordedAs Marked s i bytes → ReadsBackAs Marked i bytes s st
+  pub recorded : (kind : Kind) (i : ℕ) (bytes s : List ℕ) (st : State) → IsRecordedAs kind s i bytes → ReadsBackAs kind i bytes s st
 
 -- 01: "A small set is proved together as one table (*)"
 abbrev pub PlatesPrint : Type 0
@@ -225,9 +226,9 @@ EndOfDataPlates = allAgree endPlates ≡ true
 abbrev pub SpeedPlates : Type 0
 SpeedPlates = SpeedPlatesOf streamDevice (image 0) freshState changedState
 
--- 02, A6: READ, WRITE and SPACE over marked blocks.
+-- 02, A6: READ, WRITE and SPACE over marked blocks; "information N minus blocks copied": 1 of 4.
 abbrev pub MarkedPlates : Type 0
-MarkedPlates = (allMarkedAgree streamDevice standing markedPlates ≡ true) × (allMarkedAgree streamDevice standing markedSpaces ≡ true)
+MarkedPlates = (allMarkedAgree streamDevice standing (markedPlates 1) ≡ true) × (allMarkedAgree streamDevice standing markedSpaces ≡ true)
 
 -- What is asked above can be so: a READ, a WRITE and a WRITE FILEMARK that begin and move an element, a READ that meets an unreadable block, a marked block.
 pub record WorkBegins : Type 0 where
@@ -235,4 +236,4 @@ pub record WorkBegins : Type 0 where
   pub write : BeginsAndMoves (standing 3) (sent 0x0a 1 0 0 1 0 0)
   pub filemarks : BeginsAndMoves (standing 3) (sent 0x10 0 0 0 1 0 0)
   pub unreadable : packetStep unreadableAtTwo (standing 2) readTwo (replicate 1024 9) .state .sense ≡ unreadableBlock 2
-  pub marked : IsRecordedAs Marked markedImage 0 (replicate 512 7)
+  pub marked : IsRecordedAs Marked markedImage 0 (0xa0 ∷ replicate 511 7)

@@ -25,6 +25,6 @@ pub data Later (i : ℕ) (s : List ℕ) (st : State) : List ℕ → State → Ty
   -- the record is replaced: by `changedState` where the cartridge is changed, by `freshState`, or by what packets to other cartridges left
   replaced : {s' : List ℕ} {st' : State} (st'' : State) → Later i s st s' st' → Later i s st s' st''
 
--- element i keeps this kind and these bytes through every such history, and every READ that moves it gives them
+-- element i keeps this kind and these bytes through every such history, and every READ that moves it gives the bytes
 abbrev pub ReadsBackAs : Kind → ℕ → List ℕ → List ℕ → State → Type 0
 ReadsBackAs kind i bytes s st = (s' : List ℕ) (st' : State) → Later i s st s' st' → IsRecordedAs kind s' i bytes × EveryReadGives s' st' i bytes

@@ -4,13 +4,13 @@ use Prim.Native.Nat.{ℕ, _≤_}
 use mathlib.Core.Bool.{Bool, true, _&&_}
 use mathlib.Core.List.{List, [], _∷_}
 use lib.ListN.{replicate, set}
-use Rattle.numbers.specs.Choice.{if_then_else_, _≡ᵇ_}
+use Rattle.numbers.specs.Choice.{_≡ᵇ_}
 use Rattle.image.specs.Header.{fieldsOf}
 use Rattle.packet_state.specs.declared.state.State.{State}
-use Rattle.packet_parts.specs.Answers.{Left, goodStatus, checkCondition}
+use Rattle.packet_parts.specs.Answers.{Left}
 use Rattle.stream.specs.Packet.{packetStep}
 use Rattle.packet_parts.specs.Replies.{senseBytes}
-use Rattle.packet_laws.specs.Plates.{plateImage, standing, sent, senseOf, same}
+use Rattle.packet_laws.specs.Plates.{plateImage, standing, sent, senseOf, same, statusBeside}
 use Rattle.packet_laws.specs.Words.{blocksOf}
 use Rattle.stream_laws.specs.Words.{BeginsWork}
 
@@ -51,10 +51,6 @@ infix 80 W_from_send_blocks_P_U_sense_
 abbrev pub W_from_send_blocks_P_U_sense_ : ℕ → State → List ℕ → ℕ → ℕ → ℕ → List ℕ → Plate
 W w from st send packet blocks n P p U u sense x =
     record { warning = w; before = st; packet = packet; blocks = n; place = p; recorded = u; sense = x }
-
--- CHECK CONDITION with a sense, GOOD with none
-abbrev pub statusBeside : List ℕ → ℕ
-statusBeside told = if same told (senseOf 0x70 0 0 0 0) then goodStatus else checkCondition
 
 -- what came is what the plate says
 abbrev pub agrees : Plate → Left State → Bool

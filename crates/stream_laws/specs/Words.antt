@@ -160,7 +160,7 @@ pub record GoodRead (s : List ℕ) (st : State) (n : ℕ) (buf : List ℕ) (x : 
   pub buf-length : length (x .buf) ≡ length buf
   pub buf-beyond : (i : ℕ) → bytesOf x ≤ i → getD (x .buf) i 0 ≡ getD buf i 0
 
--- all that 01 asks of a WRITE or WRITE FILEMARK of N elements, of any drive: x is what it leaves. `Holds` says what element P + j is then, and `each` how
+-- all that 01 and 02, A6 ask of a WRITE or WRITE FILEMARK of N elements, of any drive: x is what it leaves. `Holds` says what element P + j is then, and `each` how
 -- many bytes of the buffer it takes.
 pub record GoodWrite (Holds : List ℕ → ℕ → Type 0) (each : ℕ) (s : List ℕ) (st : State) (n : ℕ) (buf : List ℕ) (x : Left State) : Type 0 where
   pub accepted : numberOf x ≡ 0

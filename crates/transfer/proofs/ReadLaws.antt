@@ -208,6 +208,14 @@ module _ (s : List ℕ) (size kinds blocks end : ℕ) where
         → part (readFrom s size kinds blocks end n off p buf .buf) (off + j * size) size ≡ blockAt s size blocks (p + j)
     read-block = run-block (read-run n off p buf)
 
+  -- the same of what came of it
+  module _ (n off p : ℕ) (buf new : List ℕ) (m : Moved) (run : reads new m ≡ readFrom s size kinds blocks end n off p buf) where
+    pub came-less : m .left ≤ n
+    came-less = rw (ap (λ (r : Reading). r .moved .left) run) (read-left n off p buf)
+
+    pub came-few : p ≤ end → p + (n - m .left) ≤ end
+    came-few l = rw (ap (λ (r : Reading). r .moved .left) run) (read-few n off p buf l)
+
   -- READ that starts at a block that holds data moves it
   pub read-first : (n off p : ℕ) (buf : List ℕ) → p < end → holdsData (kindAt s kinds p) ≡ true
       → readFrom s size kinds blocks end (suc n) off p buf .moved .left ≤ n

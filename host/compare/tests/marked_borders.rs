@@ -204,19 +204,10 @@ fn every_kind_at_every_place_of_the_floppy_device() {
     let mut bench = FloppyBench::new(Bug::None, 0);
     for kinds in all_kinds() {
         let image = tape(&kinds, C);
-        for (product, factors) in [(0, (0, 1, 1)), (2, (1, 2, 1)), (3, (3, 1, 1))] {
-            for from in 0..=product {
-                for flags in [0x00, 0x80] {
-                    let record = floppy_record(from, factors, flags);
-                    agree(floppy_reads(
-                        &mut bench,
-                        &image,
-                        &record,
-                        &kinds[from..product],
-                    ));
-                    agree(floppy_stores(&mut bench, &image, &record, product));
-                }
-            }
+        for (product, from, record) in floppy_records() {
+            let ahead = &kinds[from..product];
+            agree(floppy_reads(&mut bench, &image, &record, ahead));
+            agree(floppy_stores(&mut bench, &image, &record, product));
         }
         agree(floppy_starts(&mut bench, &image));
     }
@@ -224,6 +215,19 @@ fn every_kind_at_every_place_of_the_floppy_device() {
         "marked blocks of the floppy device: {} calls compared",
         bench.seen.calls
     ));
+}
+
+/// Records at every place of tapes of no block, of two and of three, with WDAM clear and set: the product, the place, the record.
+fn floppy_records() -> Vec<(usize, usize, [u8; 32])> {
+    let mut records = Vec::new();
+    for (product, factors) in [(0, (0, 1, 1)), (2, (1, 2, 1)), (3, (3, 1, 1))] {
+        for from in 0..=product {
+            for flags in [0x00, 0x80] {
+                records.push((product, from, floppy_record(from, factors, flags)));
+            }
+        }
+    }
+    records
 }
 
 fn floppy_reads(bench: &mut FloppyBench, image: &[u8], record: &[u8; 32], ahead: &[u8]) -> Outcome {
@@ -292,7 +296,7 @@ fn every_value_of_a_kind() {
     }
 }
 
-/// What ends a READ over marked blocks before its work, with the answer's status or number: none of them counts a block.
+/// READs over marked blocks that copy none, refused, ended before the work, or of 0 blocks, each with its number and status.
 #[test]
 fn a_read_that_copies_nothing_counts_nothing() {
     let image = tape(&[kind::MARKED; C], C);
@@ -329,7 +333,7 @@ fn a_read_that_copies_nothing_counts_nothing() {
     }
 }
 
-/// The count needs both bytes of a capacity, and is no byte's.
+/// As many marked blocks as a cartridge can hold, and about as many as one byte can tell: no count is cut.
 #[test]
 fn the_largest_counts() {
     let all: Vec<u8> = repeat_n(kind::MARKED, 65_535).collect();

@@ -24,7 +24,7 @@ pub struct Tape {
     pub max_sector: u8,
     pub max_cylinder: u8,
     pub max_head: u8,
-    /// Write deleted address marks.
+    /// Write deleted address marks; as the next two, only kept and told: a WRITE marks no block (02, A6).
     pub wdam: bool,
     /// Reduced margin.
     pub rm: bool,

@@ -7,7 +7,7 @@ use crate::command_line::args::Args;
 use crate::command_line::failure::Failure;
 use crate::tape::catalogue::{TapeFile, catalogue};
 use crate::tape::drive::Drive;
-use crate::tape::reading;
+use crate::tape::survey::{self, Kind};
 use crate::terminal::output;
 use crate::terminal::progress::Progress;
 use crate::words::{self, names};
@@ -56,19 +56,20 @@ fn run(args: &Args, out: &mut dyn Write) -> Result<(), Failure> {
     output::show(out, text.as_bytes())
 }
 
-/// How many blocks of each file are marked, found by reading them.
-fn marked_blocks(drive: &mut Drive, files: &[TapeFile]) -> Result<Vec<u32>, Failure> {
-    let blocks = files.iter().map(|file| u64::from(file.blocks)).sum();
-    let mut progress = Progress::new("reading", blocks);
-    let mut marked = Vec::new();
-    for file in files {
-        marked.push(reading::read(drive, file.whole(), &mut progress)?.marked);
-    }
-    Ok(marked)
+/// How many blocks of each file are marked.
+fn marked_blocks(drive: &mut Drive, files: &[TapeFile]) -> Result<Vec<usize>, Failure> {
+    let end = drive.go_to_end_of_data()?;
+    let mut progress = Progress::new("reading", end.into());
+    let kinds = survey::survey(drive, |elements| progress.advance(elements))?;
+    let marked = |file: &TapeFile| {
+        let own = &kinds[file.place as usize..][..file.blocks as usize];
+        own.iter().filter(|kind| **kind == Kind::Marked).count()
+    };
+    Ok(files.iter().map(marked).collect())
 }
 
-fn remarks(remark: &str, marked: u32) -> String {
-    let of_marked = words::count(marked.into(), "marked block");
+fn remarks(remark: &str, marked: usize) -> String {
+    let of_marked = words::count(marked as u64, "marked block");
     match (remark, marked) {
         (remark, 0) => remark.into(),
         ("", _) => of_marked,

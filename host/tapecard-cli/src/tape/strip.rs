@@ -13,15 +13,15 @@ pub struct Tape<'a> {
     pub warning: Option<usize>,
 }
 
-/// The strip with its marks, a line each.
+/// The strip, and below it the places that are pointed out, a line each.
 pub fn draw(tape: &Tape) -> Vec<String> {
     let cells: String = (0..tape.cells()).map(|c| tape.cell(c)).collect();
     let mut lines = vec![format!("{MARGIN}[{cells}]")];
-    lines.push(tape.mark(0, "position 0"));
+    lines.push(tape.point(0, "position 0"));
     let end = tape.kinds.len();
-    lines.push(tape.mark(end, &format!("end of data, {end}")));
+    lines.push(tape.point(end, &format!("end of data, {end}")));
     if let Some(place) = tape.warning {
-        lines.push(tape.mark(place, &format!("early warning, {place}")));
+        lines.push(tape.point(place, &format!("early warning, {place}")));
     }
     lines
 }
@@ -77,7 +77,7 @@ impl Tape<'_> {
     }
 
     /// A caret under the place's cell, its words on the side that has room.
-    fn mark(&self, place: usize, words: &str) -> String {
+    fn point(&self, place: usize, words: &str) -> String {
         let column = MARGIN.len() + 1 + self.column_of(place);
         if column + words.len() > CELLS && column > words.len() {
             let left = column - words.len() - 1;
@@ -157,7 +157,7 @@ mod tests {
     }
 
     #[test]
-    fn a_mark_near_the_end_has_its_words_before_it() {
+    fn a_place_near_the_end_has_its_words_before_it() {
         let kinds = vec![Data; 64];
         let tape = Tape {
             capacity: 64,

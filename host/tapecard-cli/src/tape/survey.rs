@@ -34,21 +34,22 @@ impl Copied {
     }
 }
 
-/// The kinds of all recorded elements; `seen` hears how many are new.
+/// The kinds of all recorded elements; `seen` hears how many are new each time.
 pub fn survey(drive: &mut Drive, mut seen: impl FnMut(u64)) -> Result<Vec<Kind>, Failure> {
     let mut room = vec![0; CHUNK as usize * drive.block_size()];
     let mut kinds = Vec::new();
     loop {
-        let (copied, ended) = read_at(drive, kinds.len() as u32, CHUNK, &mut room)?;
+        let before = kinds.len();
+        let (copied, ended) = read_at(drive, before as u32, CHUNK, &mut room)?;
         let stop = match ended {
             Ended::Good | Ended::EndOfData => None,
             Ended::Filemark => Some(Kind::Filemark),
             Ended::Unreadable => Some(Kind::Unreadable),
             _ => return Err(drive.unexpected()),
         };
-        seen(u64::from(copied.blocks) + 1);
         tell_apart(drive, copied, &mut room, &mut kinds)?;
         kinds.extend(stop);
+        seen((kinds.len() - before) as u64);
         if ended == Ended::EndOfData {
             return Ok(kinds);
         }

@@ -3,7 +3,8 @@
 use native.Mathlib.Nat.{mul-le-mul-right}
 use native.Mathlib.Omega.{arith}
 use Rattle.image.proofs.HeaderLaws.{sound}
-use Rattle.floppy.proofs.WorkLaws.{read-less, read-few, read-went}
+use Rattle.transfer.proofs.ReadLaws.{came-less, came-few}
+use Rattle.floppy.proofs.WorkLaws.{read-went}
 use borrow.Author.Needs.{needs}
 use Rattle.floppy.proofs.work.read.Statement.{statement}
 use Rattle.floppy.proofs.work.read.Tie as tie
@@ -23,8 +24,8 @@ end-read-requires c κs =
     let start = c .before .before .before .before .before .before .before in
     let g = sound _ _ (start .pre .0) in
     let run = c .before .before .before .read-blocks .ensures in
-    let l = read-less _ (start .args .h) _ (start .args .state) _ _ _ _ run in
-    let f = read-few _ (start .args .h) _ (start .args .state) _ _ _ _ run (start .pre .1 .1 .0) in
+    let l = came-less _ _ _ _ _ _ _ _ _ _ _ run in
+    let f = came-few _ _ _ _ _ _ _ _ _ _ _ run (start .pre .1 .1 .0) in
     omega (arith, start .pre)
 
 same-length : tie.Need-same-length

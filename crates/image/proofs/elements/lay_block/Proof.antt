@@ -35,8 +35,8 @@ copy-block-requires c κs = search needs
 kind-place-requires : tie.Need-kind-place-requires
 kind-place-requires c κs = search needs
 
-slice-write-image : tie.Need-slice-write-image
-slice-write-image c = search needs
+put-kind-requires : tie.Need-put-kind-requires
+put-kind-requires c κs = search needs
 
 same-length : tie.Need-same-length
 same-length c = search needs
@@ -58,6 +58,6 @@ lay-block-spec =
     part-copy-block-end-2
     copy-block-requires
     kind-place-requires
-    slice-write-image
+    put-kind-requires
     same-length
     returns)

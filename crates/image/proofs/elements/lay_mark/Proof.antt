@@ -8,15 +8,15 @@ use Rattle.image.proofs.elements.lay_mark.Tie as tie
 kind-place-requires : tie.Need-kind-place-requires
 kind-place-requires c κs = search needs
 
-slice-write-image : tie.Need-slice-write-image
-slice-write-image c = search needs
+put-kind-requires : tie.Need-put-kind-requires
+put-kind-requires c κs = search needs
 
 same-length : tie.Need-same-length
 same-length c = search needs
 
 returns : tie.Need-returns
 unfolding layMark
-returns c = simp (c .kind-place .ensures)
+returns c = simp (c .before .before .put-kind .ensures, c .before .before .before .kind-place .ensures)
 
 pub lay-mark-spec : {M : Type 1} → statement M
-lay-mark-spec = tie.close (tie.spec kind-place-requires slice-write-image same-length returns)
+lay-mark-spec = tie.close (tie.spec kind-place-requires put-kind-requires same-length returns)

@@ -2,7 +2,8 @@
 -- Assumes nothing.
 use native.Mathlib.Omega.{arith}
 use Rattle.image.proofs.HeaderLaws.{sound}
-use Rattle.stream.proofs.WorkLaws.{read-less, read-few, read-went}
+use Rattle.transfer.proofs.ReadLaws.{came-less, came-few}
+use Rattle.stream.proofs.WorkLaws.{read-went}
 use borrow.Author.Needs.{needs}
 use Rattle.stream.proofs.work.read.Statement.{statement}
 use Rattle.stream.proofs.work.read.Tie as tie
@@ -18,8 +19,8 @@ end-read-requires c κs =
     let b3 = c .before .before .before in
     let b7 = b3 .before .before .before .before in
     let g = sound _ _ (b7 .pre .0) in
-    let l = read-less _ (b7 .args .h) (b7 .args .state) _ _ _ _ (b3 .read-blocks .ensures) in
-    let f = read-few _ (b7 .args .h) (b7 .args .state) _ _ _ _ (b3 .read-blocks .ensures) (b7 .pre .1 .0) in
+    let l = came-less _ _ _ _ _ _ _ _ _ _ _ (b3 .read-blocks .ensures) in
+    let f = came-few _ _ _ _ _ _ _ _ _ _ _ (b3 .read-blocks .ensures) (b7 .pre .1 .0) in
     omega arith
 
 same-length : tie.Need-same-length
