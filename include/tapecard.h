@@ -62,7 +62,7 @@ extern "C" {
 
 /* The record. */
 #define TAPECARD_POSITION_AT 0       /* 4 bytes: position P */
-#define TAPECARD_LOADED_AT 4         /* 1 byte: bit 0, a cartridge is loaded */
+#define TAPECARD_LOADED_AT 4         /* 1 byte: the bits LOADED and LOCKED below */
 #define TAPECARD_ATTENTION_AT 5      /* 1 byte: the pending attention */
 #define TAPECARD_SPEED_AT 6          /* 2 bytes: speed, 0 (automatic), 62, 125, 250 (fresh) or 500 */
 #define TAPECARD_SENSE_KEY_AT 8      /* 1 byte: sense key, at most 15 */
@@ -70,6 +70,8 @@ extern "C" {
 #define TAPECARD_SENSE_ASCQ_AT 10    /* 1 byte: its qualifier */
 #define TAPECARD_SENSE_FLAGS_AT 11   /* 1 byte: the three bits below */
 #define TAPECARD_INFORMATION_AT 12   /* 4 bytes: information, the residue where it is valid */
+#define TAPECARD_LOADED 0x01         /* a cartridge is loaded */
+#define TAPECARD_LOCKED 0x02         /* the door is locked: an unload ends with 5/53/02 and P stays */
 #define TAPECARD_ATTENTION_NONE 0    /* nothing to tell */
 #define TAPECARD_ATTENTION_CHANGED 1 /* the medium was changed */
 #define TAPECARD_ATTENTION_RESET 2   /* the drive was reset */
@@ -98,6 +100,7 @@ extern "C" {
 #define TAPECARD_MODE_SELECT 0x15     /* list of byte 4 bytes: one of 32 sets the speed, 0 and 12 set nothing */
 #define TAPECARD_MODE_SENSE 0x1A      /* page in byte 2, 00h or 2Ah, first min(byte 4, 12 or 32) bytes */
 #define TAPECARD_LOAD_UNLOAD 0x1B     /* byte 4: load 1, retension 2, EOT 4 */
+#define TAPECARD_PREVENT_ALLOW 0x1E   /* medium removal: byte 4 bit 0 set locks the door, clear unlocks it */
 #define TAPECARD_LOCATE 0x2B          /* P = bytes 3-6 */
 #define TAPECARD_READ_POSITION 0x34   /* 20 bytes that tell P */
 
@@ -105,12 +108,15 @@ extern "C" {
 #define TAPECARD_LIST_LENGTH 32   /* bytes of the list */
 #define TAPECARD_LIST_PAGE_AT 12  /* 2 bytes: the page's code and length, as below */
 #define TAPECARD_LIST_PAGE 0x2A12 /* page 2Ah, 18 bytes after these two */
+#define TAPECARD_LIST_DOOR_AT 18  /* 1 byte that MODE SENSE gives: 08h and the two bits below */
+#define TAPECARD_LIST_LOCK 0x01   /* the door can be locked: always set */
+#define TAPECARD_LIST_LOCKED 0x02 /* the door is locked */
 #define TAPECARD_LIST_SPEED_AT 26 /* 2 bytes: speed */
 
-/* Makes a fresh record: position 0, loaded, attention reset, speed 250, no sense. */
+/* Makes a fresh record: position 0, loaded, not locked, attention reset, speed 250, no sense. */
 void tapecard_fresh(uint8_t record[TAPECARD_PACKET_RECORD_LENGTH]);
 
-/* Another cartridge is in: position 0, loaded, attention medium changed, no sense; the speed stays. */
+/* Another cartridge is in: position 0, loaded, attention medium changed, no sense; the speed and the lock stay. */
 void tapecard_change(uint8_t record[TAPECARD_PACKET_RECORD_LENGTH]);
 
 /* Answers one packet over a cartridge image; a transfer fills or takes the first bytes of `data`. */
@@ -155,7 +161,7 @@ void tapecard_floppy_fresh(uint8_t record[TAPECARD_FLOPPY_RECORD_LENGTH], const 
 
 /*
  * This cartridge is in now: position 0, loaded, attention medium changed, no sense, tape parameters as in a fresh record; the speed
- * stays. The image is only read. Refused with 2, the record stays as it was.
+ * and the lock stay. The image is only read. Refused with 2, the record stays as it was.
  */
 void tapecard_floppy_change(uint8_t record[TAPECARD_FLOPPY_RECORD_LENGTH], const uint8_t *image, size_t image_length,
                             uint8_t answer[TAPECARD_PACKET_ANSWER_LENGTH]);

@@ -1,6 +1,6 @@
 #!/usr/bin/env bash
 # A walk through the drive card in under a minute: glyphs on a tape and back, a READ that stops, one near the end of tape, a speed
-# set, a cut packet, a glyph redrawn in place, a marked header block, a lost drive.
+# set, a locked door, a cut packet, a glyph redrawn in place, a marked header block, a lost drive.
 # Run by `make demo`, after the archive and the command are built. TAPECARD may name another build of the command.
 set -euo pipefail
 cd "$(dirname "$0")/.."
@@ -79,6 +79,16 @@ tapecard packet scripts.img --data automatic.list <<'LINES'
 1A 00 2A 00 20 00 00 00 00 00 00 00  # MODE SENSE
 15 00 00 00 20 00 00 00 00 00 00 00  # MODE SELECT
 1A 00 2A 00 20 00 00 00 00 00 00 00  # MODE SENSE
+LINES
+
+heading "A build locks the door, so an operator's unload is stopped where the tape stands, until the build is done"
+printf '\n$ tapecard packet scripts.img --any-answer\n'
+tapecard packet scripts.img --any-answer <<'LINES'
+2B 00 00 00 00 00 05 00 00 00 00 00  # LOCATE: the build is at work here
+1E 00 00 00 01 00 00 00 00 00 00 00  # it has locked the door
+1B 00 00 00 00 00 00 00 00 00 00 00  # an operator unloads
+1E 00 00 00 00 00 00 00 00 00 00 00  # the build is done and unlocks
+1B 00 00 00 00 00 00 00 00 00 00 00  # now the cartridge comes out
 LINES
 
 heading "A packet that lost its last byte is refused, and nothing changes"

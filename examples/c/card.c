@@ -1,7 +1,7 @@
 /*
  * The drive card from C: a host that wants the automatic speed sets it, two blocks and a filemark go onto a cartridge in memory
- * and come back, a packet that was cut is refused, the floppy device rewrites a block in place and tells of a marked one, and a
- * pulse drive is recovered by 46 trains.
+ * behind a locked door and come back, a packet that was cut is refused, the floppy device rewrites a block in place and tells of a
+ * marked one, and a pulse drive is recovered by 46 trains.
  *
  *     cc -std=c99 -Wall -Wextra -Werror -Iinclude examples/c/card.c target/staticlib/libtapecard.a -o card
  */
@@ -130,8 +130,11 @@ static void write_and_read_back(struct packet_drive *drive)
     memcpy(written, lines[0], sizeof lines[0]);
     memcpy(written + BLOCK_SIZE, lines[1], sizeof lines[1]);
     send_packet(drive, "REWIND", TAPECARD_REWIND, 0, no_data, 0);
+    send_packet(drive, "PREVENT REMOVAL", TAPECARD_PREVENT_ALLOW, 1, no_data, 0);
     send_packet(drive, "WRITE 2", TAPECARD_WRITE, 2, written, sizeof written);
+    send_packet(drive, "UNLOAD", TAPECARD_LOAD_UNLOAD, 0, no_data, 0); /* an operator, too early */
     send_packet(drive, "WRITE FILEMARK 1", TAPECARD_WRITE_FILEMARK, 1, no_data, 0);
+    send_packet(drive, "ALLOW REMOVAL", TAPECARD_PREVENT_ALLOW, 0, no_data, 0);
     send_packet(drive, "REWIND", TAPECARD_REWIND, 0, no_data, 0);
     send_packet(drive, "READ 3", TAPECARD_READ, 3, read, sizeof read);
     printf("read: %s %s\n", (char *)read, (char *)read + BLOCK_SIZE);

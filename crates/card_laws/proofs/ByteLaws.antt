@@ -98,6 +98,12 @@ pub one-back : (b : Bool) → isSet (weightOf b 1) 1 ≡ b
 one-back true = refl
 one-back false = refl
 
+pub pair-back : (a b : Bool) → (isSet (weightOf a 1 + weightOf b 2) 1 ≡ a) × (isSet (weightOf a 1 + weightOf b 2) 2 ≡ b)
+pair-back true true = (refl, refl)
+pair-back true false = (refl, refl)
+pair-back false true = (refl, refl)
+pair-back false false = (refl, refl)
+
 -- ---- cases
 
 pub attention-back : (a : Attention) → attentionOf (attentionByte a) ≡ a

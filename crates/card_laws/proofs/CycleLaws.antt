@@ -37,15 +37,15 @@ use Rattle.pulse_record.specs.PulseRecord.{waitingOf, waitedCode, waitedHeld, w
 use Rattle.pulse_record.specs.PulseRecord.{waitingIn, decodeDrive, encodeDrive}
 use Rattle.card_laws.specs.Promises.{HeldAlone, FitsRecord, StateKeptByCycle, DecodedStateFits, FloppyKeptByCycle, DecodedTapeFits}
 use Rattle.card_laws.specs.Promises.{DriveKeptByCycle, DecodedDriveFits}
-use Rattle.card_laws.proofs.ByteLaws.{two-back, four-back, one-back, three-back, high-back, five-back, attention-back, motion-back, bits-back}
-use Rattle.card_laws.proofs.ByteLaws.{unsent-most, unsent-closed}
+use Rattle.card_laws.proofs.ByteLaws.{two-back, four-back, one-back, pair-back, three-back, high-back, five-back, attention-back, motion-back}
+use Rattle.card_laws.proofs.ByteLaws.{bits-back, unsent-most, unsent-closed}
 
 -- ---- the packet drive
 
-same-state : {p p' s s' : ℕ} {l l' : Bool} {a a' : Attention} {x x' : Sense} → p ≡ p' → l ≡ l' → a ≡ a' → s ≡ s' → x ≡ x'
-    → _≡_ {A = State} (record { position = p; loaded = l; attention = a; speed = s; sense = x })
-    (record { position = p'; loaded = l'; attention = a'; speed = s'; sense = x' })
-same-state p l a s x = rw (p, l, a, s, x)
+same-state : {p p' s s' : ℕ} {l l' k k' : Bool} {a a' : Attention} {x x' : Sense} → p ≡ p' → l ≡ l' → k ≡ k' → a ≡ a' → s ≡ s' → x ≡ x'
+    → _≡_ {A = State} (record { position = p; loaded = l; locked = k; attention = a; speed = s; sense = x })
+    (record { position = p'; loaded = l'; locked = k'; attention = a'; speed = s'; sense = x' })
+same-state p l k a s x = rw (p, l, k, a, s, x)
 
 same-sense : {k c q i i' : ℕ} {f f' e e' v v' : Bool} → f ≡ f' → e ≡ e' → v ≡ v' → i ≡ i'
     → _≡_ {A = Sense} (record { key = k; asc = c; ascq = q; filemark = f; eom = e; valid = v; information = i })
@@ -58,7 +58,8 @@ unfolding decodeState encodeState
 state-back st rest f =
     let x = st .sense in
     let b = three-back (x .valid) (x .eom) (x .filemark) in
-    same-state (four-back (st .position) (f .position)) (one-back (st .loaded)) (attention-back (st .attention)) (two-back (st .speed) (f .speed))
+    let d = pair-back (st .loaded) (st .locked) in
+    same-state (four-back (st .position) (f .position)) (d .0) (d .1) (attention-back (st .attention)) (two-back (st .speed) (f .speed))
     (same-sense (b .1 .1) (b .1 .0) (b .0) (four-back (x .information) (f .information)))
 
 pub state-kept-by-cycle : StateKeptByCycle

@@ -12,7 +12,7 @@ use Rattle.image.specs.declared.header.Header.{Header}
 use Rattle.image.specs.Header.{fieldsOf, brokenImage}
 use Rattle.opcodes.specs.declared.Command.{Command}
 use Rattle.opcodes.specs.declared.Command.the-variants.{Unknown, TestUnitReady, Rewind, RequestSense, Read, Write, WriteFilemarks}
-use Rattle.opcodes.specs.declared.Command.the-variants.{Space, Inquiry, ModeSelect, ModeSense, LoadUnload, Locate, ReadPosition}
+use Rattle.opcodes.specs.declared.Command.the-variants.{Space, Inquiry, ModeSelect, ModeSense, LoadUnload, Locate, ReadPosition, PreventAllow}
 use Rattle.transfer.specs.declared.Stop.{Stop}
 use Rattle.transfer.specs.declared.Stop.the-variants.{Full, AtFilemark, AtBadBlock, AtEnd, AtBeginning}
 use Rattle.packet_state.specs.declared.state.Ending.the-variants.{Good}
@@ -21,7 +21,7 @@ use Rattle.packet_state.specs.States.{freshState, changedState}
 use Rattle.packet_parts.specs.declared.requests.Request.{Request}
 use Rattle.packet_parts.specs.Answers.{refused, ends}
 use Rattle.packet_parts.specs.Replies.{replyEnds}
-use Rattle.packet_work.specs.Settings.{loadWork, speedWork}
+use Rattle.packet_work.specs.Settings.{loadWork, lockWork, speedWork}
 use Rattle.packet_laws.specs.Words.{numberOf}
 use Rattle.floppy_parts.specs.declared.tape.Floppy.{Floppy}
 use Rattle.floppy_parts.specs.declared.tape.FloppyOutcome.{FloppyOutcome}
@@ -57,7 +57,7 @@ write-low left = simp (ending-of, alike)
 
 work-fits : (c : Command) (s : List ℕ) (h : Header) (st : State) (t : Tape) (q : Request) (buf : List ℕ)
     → fits (record { answer = workOf c s h st t q buf .answer; state = workOf c s h st t q buf .state }) ≡ true
-unfolding workOf readWork readEnds writeWork writeEnds replyEnds selectWork speedWork tapeWork loadWork
+unfolding workOf readWork readEnds writeWork writeEnds replyEnds selectWork speedWork tapeWork loadWork lockWork
 work-fits Unknown s h st t q buf = ends-fits _ _ _ _
 work-fits TestUnitReady s h st t q buf = ends-fits _ _ _ _
 work-fits Rewind s h st t q buf = ends-fits _ _ _ _
@@ -72,6 +72,7 @@ work-fits ModeSense s h st t q buf = ends-fits _ _ _ _
 work-fits LoadUnload s h st t q buf = ends-fits _ _ _ _
 work-fits Locate s h st t q buf = ends-fits _ _ _ _
 work-fits ReadPosition s h st t q buf = ends-fits _ _ _ _
+work-fits PreventAllow s h st t q buf = ends-fits _ _ _ _
 
 packet-fits : (s : List ℕ) (f : Floppy) (packet buf : List ℕ) → Fits floppyDevice (floppyStep s f packet buf)
 packet-fits = answer-fits floppyDevice (λ f next. refl) (λ s h f q buf. work-fits (q .command) s h (f .shared) (f .tape) q buf)

@@ -18,7 +18,7 @@ use Rattle.image.specs.Header.{fieldsOf, brokenImage}
 use Rattle.image.proofs.HeaderLaws.{Sound, good-header, sound}
 use Rattle.opcodes.specs.declared.Command.{Command}
 use Rattle.opcodes.specs.declared.Command.the-variants.{Unknown, TestUnitReady, Rewind, RequestSense, Read, Write, WriteFilemarks}
-use Rattle.opcodes.specs.declared.Command.the-variants.{Space, Inquiry, ModeSelect, ModeSense, LoadUnload, Locate, ReadPosition}
+use Rattle.opcodes.specs.declared.Command.the-variants.{Space, Inquiry, ModeSelect, ModeSense, LoadUnload, Locate, ReadPosition, PreventAllow}
 use Rattle.transfer.specs.declared.Moved.{Moved}
 use Rattle.transfer.specs.declared.Stop.{Stop}
 use Rattle.transfer.specs.declared.Stop.the-variants.{Full, AtFilemark, AtBadBlock, AtEnd, AtBeginning}
@@ -39,7 +39,7 @@ use Rattle.packet_parts.specs.Replies.{replyEnds}
 use Rattle.packet_parts.specs.Requests.{loadBit, requestUnder}
 use Rattle.packet_parts.specs.Shell.{carriedOut}
 use Rattle.packet_work.specs.Moving.{moves, readMoves}
-use Rattle.packet_work.specs.Settings.{loadWork}
+use Rattle.packet_work.specs.Settings.{loadWork, lockWork}
 use Rattle.packet_laws.specs.Words.{numberOf, blocksOf, bytesOf, markedOf}
 use Rattle.packet_laws.proofs.Endings.{senseOf, ends-is}
 use Rattle.packet_laws.proofs.Ways.{Way, cut, broken, unruly, short, ends-early, works, way}
@@ -104,6 +104,7 @@ after-fits ModeSense h t q list l f b = f
 after-fits LoadUnload h t q list l f b = either FitsTape (loadBit q) (resetTape (h .capacity)) t (λ e. reset-fits (h .capacity) l) (λ e. f)
 after-fits Locate h t q list l f b = f
 after-fits ReadPosition h t q list l f b = f
+after-fits PreventAllow h t q list l f b = f
 
 -- ---- so do the numbers that a packet tells
 
@@ -156,7 +157,7 @@ module _ (s : List ℕ) (h : Header) (st : State) (t : Tape) (q : Request) (buf 
       record { information = w .information; blocks = w .blocks; bytes = w .bytes; marked = omega arith }
 
   work-whole : (c : Command) → Whole (record { answer = workOf c s h st t q buf .answer; state = workOf c s h st t q buf .state })
-  unfolding workOf readWork readEnds writeWork writeEnds loadWork replyEnds
+  unfolding workOf readWork readEnds writeWork writeEnds loadWork lockWork replyEnds
   work-whole Unknown = plain _ _ (omega arith)
   work-whole TestUnitReady = plain _ _ (omega arith)
   work-whole Rewind = plain _ _ (omega arith)
@@ -177,6 +178,7 @@ module _ (s : List ℕ) (h : Header) (st : State) (t : Tape) (q : Request) (buf 
   work-whole LoadUnload = plain _ _ (omega arith)
   work-whole Locate = plain _ _ (omega arith)
   work-whole ReadPosition = plain _ _ (omega arith)
+  work-whole PreventAllow = plain _ _ (omega arith)
 
 -- ---- the whole packet
 

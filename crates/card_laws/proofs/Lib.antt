@@ -7,5 +7,6 @@ pub mod PacketFollowing
 pub mod PacketBytes
 pub mod FloppyFollowing
 pub mod FloppyBytes
+pub mod Locking
 pub mod Recovering
 pub mod CardLaws

@@ -13,7 +13,7 @@ use Rattle.image.specs.declared.header.Header.{Header}
 use Rattle.image.specs.Header.{fieldsOf}
 use Rattle.opcodes.specs.declared.Command.{Command}
 use Rattle.opcodes.specs.declared.Command.the-variants.{Unknown, TestUnitReady, Rewind, RequestSense, Read, Write, WriteFilemarks}
-use Rattle.opcodes.specs.declared.Command.the-variants.{Space, Inquiry, ModeSelect, ModeSense, LoadUnload, Locate, ReadPosition}
+use Rattle.opcodes.specs.declared.Command.the-variants.{Space, Inquiry, ModeSelect, ModeSense, LoadUnload, Locate, ReadPosition, PreventAllow}
 use Rattle.transfer.specs.declared.Moved.{Moved}
 use Rattle.transfer.specs.declared.Stop.{Stop}
 use Rattle.transfer.specs.declared.Stop.the-variants.{Full, AtFilemark, AtBadBlock, AtEnd, AtBeginning}
@@ -38,7 +38,7 @@ use Rattle.packet_parts.specs.Verdicts.{foundFirst, verdictBy}
 use Rattle.stream.specs.Packet.{streamDevice, packetStep}
 use Rattle.stream.specs.Work.{endingOf, locateWork, markWork, readEnds, readWork, selectWork, spaceWork, workOf}
 use Rattle.stream.specs.Work.{writeEnding, writeEnds, writeWork}
-use Rattle.packet_work.specs.Settings.{loadWork, speedWork}
+use Rattle.packet_work.specs.Settings.{loadWork, lockWork, speedWork}
 use Rattle.packet_laws.specs.Words.{numberOf}
 use Rattle.stream_laws.proofs.Leaving.{outcomeOf, accepted-leaves}
 use Rattle.packet_record.specs.PacketRecord.{attentionByte, decodeState, encodeAnswer, encodeState}
@@ -109,7 +109,7 @@ fits-of true x y = refl
 fits-of false x y = refl
 
 work-fits : (c : Command) (s : List ℕ) (h : Header) (st : State) (q : Request) (buf : List ℕ) → fits (outcomeOf (workOf c s h st q buf)) ≡ true
-unfolding workOf readWork readEnds writeWork writeEnds markWork spaceWork replyEnds selectWork speedWork loadWork locateWork
+unfolding workOf readWork readEnds writeWork writeEnds markWork spaceWork replyEnds selectWork speedWork loadWork lockWork locateWork
 work-fits Unknown s h st q buf = ends-fits _ _ _ _
 work-fits TestUnitReady s h st q buf = ends-fits _ _ _ _
 work-fits Rewind s h st q buf = ends-fits _ _ _ _
@@ -124,6 +124,7 @@ work-fits ModeSense s h st q buf = ends-fits _ _ _ _
 work-fits LoadUnload s h st q buf = ends-fits _ _ _ _
 work-fits Locate s h st q buf = simp (fits-of, ends-fits, alike)
 work-fits ReadPosition s h st q buf = ends-fits _ _ _ _
+work-fits PreventAllow s h st q buf = ends-fits _ _ _ _
 
 -- the whole packet, of any device that keeps the record it is given
 module _ {R : Type 0} (d : Device R) where
@@ -170,7 +171,7 @@ state-all st key l a =
     let asc = ltb-true (x .asc) 256 (search ands) in
     let ascq = ltb-true (x .ascq) 256 (search ands) in
     count-all 4 (st .position)
-    (next (omega (arith, flag-most (st .loaded) 1))
+    (next (omega (arith, flag-most (st .loaded) 1, flag-most (st .locked) 2))
     (next (attention-byte (st .attention))
     (count-all 2 (st .speed)
     (next key

@@ -1,7 +1,7 @@
 -- What the calls promise beyond their definitions; proofs/ keeps each, under its name.
 -- Assumes nothing.
 use mathlib.Core.Path.{_≡_}
-use mathlib.Core.Bool.{true}
+use mathlib.Core.Bool.{true, false}
 use mathlib.Core.List.{List, map}
 use Prim.Native.Nat.{ℕ, _^_, _<_, _≤_}
 use lib.ListN.{getD}
@@ -19,6 +19,7 @@ use Rattle.packet_state.specs.States.{freshState, changedState}
 use Rattle.stream.specs.Packet.{packetStep}
 use Rattle.packet_laws.specs.Words.{blocksOf, bytesOf, markedOf}
 use Rattle.numbers.specs.Counts.{countAt}
+use Rattle.numbers.specs.Flags.{isSet}
 use Rattle.numbers.specs.Outcomes.{Settles}
 use Rattle.packet_record.specs.PacketRecord.{decodeState, encodeState}
 use Rattle.floppy_parts.specs.declared.tape.Floppy.{Floppy}
@@ -198,6 +199,24 @@ CardRecoversAtAnyPace =
     (state : List ℕ) (k : ℕ) (pauses : ℕ → ℕ) → Bytes state
     → keepsRules (decodeDrive state) ≡ true → decodeDrive state .marks .inside ≡ true → silentTicks (decodeDrive state) ≤ k
     → BytesRegained pauses state (ticksOn k state) (pacedOn pauses (ticksOn k state) recoveryTrains)
+
+-- ---- 02, A8, on the bytes themselves: a cartridge that is locked in stays in, whatever is sent, until it is allowed out
+
+-- bits 0 and 1 of byte 4: loaded and locked
+abbrev pub LockedIn : List ℕ → Type 0
+LockedIn state = (isSet (getD state 4 0) 1 ≡ true) × (isSet (getD state 4 0) 2 ≡ true)
+
+-- 1Eh with bit 0 of byte 4 clear
+abbrev pub Allows : List ℕ → Type 0
+Allows packet = (getD packet 0 0 ≡ 0x1e) × (isSet (getD packet 4 0) 1 ≡ false)
+
+pub record CardLockedStays : Type 0 where
+  pub packet : (state image packet buf : List ℕ) → Bytes packet → (Allows packet → ⊥)
+      → LockedIn state → LockedIn (packetCall state image packet buf .state)
+  pub change : (state : List ℕ) → Bytes state → LockedIn state → LockedIn (packetChange state)
+  pub floppy-packet : (state image packet buf : List ℕ) → Bytes state → Bytes packet → Bytes buf → (Allows packet → ⊥)
+      → LockedIn state → LockedIn (floppyPacketCall state image packet buf .state)
+  pub floppy-change : (state image : List ℕ) → Bytes state → LockedIn state → LockedIn (floppyChangeCall state image .state)
 
 -- and no count of an answer is cut: "4-7 blocks; 8-11 bytes; 12-15 .. marked" of a packet, "4-7 ticks" of a wait
 

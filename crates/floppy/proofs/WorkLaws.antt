@@ -10,7 +10,7 @@ use Rattle.opcodes.proofs.Command
 use Rattle.image.specs.declared.header.Header.{Header}
 use Rattle.opcodes.specs.declared.Command.{Command}
 use Rattle.opcodes.specs.declared.Command.the-variants.{Unknown, TestUnitReady, Rewind, RequestSense, Read, Write, WriteFilemarks, Space, Inquiry}
-use Rattle.opcodes.specs.declared.Command.the-variants.{ModeSelect, ModeSense, LoadUnload, Locate, ReadPosition}
+use Rattle.opcodes.specs.declared.Command.the-variants.{ModeSelect, ModeSense, LoadUnload, Locate, ReadPosition, PreventAllow}
 use Rattle.transfer.specs.declared.Moved.{Moved}
 use Rattle.transfer.specs.Reading.{reads, readFrom}
 use Rattle.transfer.specs.Writing.{writes, writeFrom}
@@ -22,9 +22,9 @@ use Rattle.packet_state.specs.States.{atPlace}
 use Rattle.packet_parts.specs.declared.requests.Request.{Request}
 use Rattle.packet_parts.specs.Answers.{done, ends}
 use Rattle.packet_parts.specs.Replies.{senseBytes, devicePage, modeHeader, devicePageBytes, replyEnds, repliedInto}
-use Rattle.packet_parts.specs.Requests.{pageCode, loadBit}
+use Rattle.packet_parts.specs.Requests.{pageCode, loadBit, preventBit}
 use Rattle.packet_work.specs.Moving.{moves, readMoves}
-use Rattle.packet_work.specs.Settings.{loadWork}
+use Rattle.packet_work.specs.Settings.{loadWork, lockWork}
 use Rattle.floppy_parts.specs.declared.tape.Tape.{Tape}
 use Rattle.floppy_parts.specs.Replies.{floppyInquiry, floppyMode, tapePage, tapeMode, modeBytes}
 use Rattle.floppy_parts.specs.Tape.{product}
@@ -49,7 +49,7 @@ module _ (s : List ℕ) (h : Header) (end : ℕ) (st : State) (asked : ℕ) (buf
 -- ---- 1Ah
 
 module _ (h : Header) (st : State) (t : Tape) (q : Request) where
-  pub device-shown : (pageCode q ≡ᵇ devicePage) ≡ true → modeHeader h 31 ++ devicePageBytes h (st .speed) floppyMode (t .bseg) ≡ modeBytes h st t q
+  pub device-shown : (pageCode q ≡ᵇ devicePage) ≡ true → modeHeader h 31 ++ devicePageBytes h st floppyMode (t .bseg) ≡ modeBytes h st t q
   device-shown e = rw e
 
   pub tape-shown : (pageCode q ≡ᵇ devicePage) ≡ false → (pageCode q ≡ᵇ tapePage) ≡ true → tapeMode h t ≡ modeBytes h st t q
@@ -81,6 +81,7 @@ quiet-work ModeSense s h st t q buf o = absurd (miss quiet 10 tt o)
 quiet-work LoadUnload s h st t q buf o = absurd (miss quiet 11 tt o)
 quiet-work Locate s h st t q buf o = absurd (miss quiet 12 tt o)
 quiet-work ReadPosition s h st t q buf o = refl
+quiet-work PreventAllow s h st t q buf o = absurd (miss quiet 14 tt o)
 
 module _ (k : Command) (s : List ℕ) (h : Header) (st : State) (t : Tape) (q : Request) (buf : List ℕ) (r : Outcome) where
   pub was-quiet : OneOf quiet (tagOf Command.the-type k) → r ≡ ends st Good 0 0 → done r s buf ≡ workOf k s h st t q buf
@@ -93,6 +94,10 @@ module _ (k : Command) (s : List ℕ) (h : Header) (st : State) (t : Tape) (q : 
   pub was-loaded : (load : Bool) → k ≡ LoadUnload → load ≡ loadBit q → r ≡ loadWork st load → done r s buf ≡ workOf k s h st t q buf
   unfolding workOf
   was-loaded load e l p = rw (e, p, l)
+
+  pub was-locked : (prevent : Bool) → k ≡ PreventAllow → prevent ≡ preventBit q → r ≡ lockWork st prevent → done r s buf ≡ workOf k s h st t q buf
+  unfolding workOf
+  was-locked prevent e l p = rw (e, p, l)
 
   pub was-located : (next : State) → k ≡ Locate → next ≡ atPlace st (q .target) → r ≡ ends next Good 0 0 → done r s buf ≡ workOf k s h st t q buf
   unfolding workOf

@@ -10,7 +10,7 @@ use Rattle.image.specs.declared.header.Judged.the-variants.{Good as GoodHeader}
 use Rattle.image.specs.Header.{headerOf}
 use Rattle.opcodes.specs.declared.Command.{Command}
 use Rattle.opcodes.specs.declared.Command.the-variants.{Unknown, TestUnitReady, Rewind, RequestSense, Read, Write, WriteFilemarks, Space, Inquiry}
-use Rattle.opcodes.specs.declared.Command.the-variants.{ModeSelect, ModeSense, LoadUnload, Locate, ReadPosition}
+use Rattle.opcodes.specs.declared.Command.the-variants.{ModeSelect, ModeSense, LoadUnload, Locate, ReadPosition, PreventAllow}
 use Rattle.transfer.specs.declared.Stop.{Stop}
 use Rattle.transfer.specs.declared.Stop.the-variants.{Full, AtFilemark, AtBadBlock, AtEnd, AtBeginning}
 use Rattle.transfer.specs.Reading.{Reading, readFrom}
@@ -24,10 +24,10 @@ use Rattle.packet_state.specs.States.{highestKey, atPlace}
 use Rattle.packet_parts.specs.declared.requests.Request.{Request}
 use Rattle.packet_parts.specs.Answers.{Left, done, ends}
 use Rattle.packet_parts.specs.Replies.{senseBytes, fullList}
-use Rattle.packet_parts.specs.Requests.{loadBit}
+use Rattle.packet_parts.specs.Requests.{loadBit, preventBit}
 use Rattle.packet_work.specs.Moving.{moves, readMoves}
 use Rattle.packet_work.specs.Replies.{replyWork}
-use Rattle.packet_work.specs.Settings.{speedWork, loadWork}
+use Rattle.packet_work.specs.Settings.{speedWork, loadWork, lockWork}
 use Rattle.floppy_parts.specs.declared.tape.Tape.{Tape}
 use Rattle.floppy_parts.specs.Replies.{floppyInquiry, tapeList, modeBytes}
 use Rattle.floppy_parts.specs.Requests.{blocksAsked, blockNumber}
@@ -110,3 +110,4 @@ workOf ModeSense s h st t q buf = replyWork (modeBytes h st t q) (q .length) st 
 workOf LoadUnload s h st t q buf = done (loadWork st (loadBit q)) s buf
 workOf Locate s h st t q buf = done (ends (atPlace st (blockNumber q)) Good 0 0) s buf
 workOf ReadPosition s h st t q buf = done (ends st Good 0 0) s buf
+workOf PreventAllow s h st t q buf = done (lockWork st (preventBit q)) s buf

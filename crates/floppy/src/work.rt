@@ -41,6 +41,7 @@ use packet_work::replies::device_mode;
 use packet_work::replies::inquiry;
 use packet_work::replies::request_sense;
 use packet_work::settings::load_unload;
+use packet_work::settings::prevent_allow;
 use packet_work::settings::select_speed;
 use transfer::Stop;
 use transfer::reading::read_blocks;
@@ -128,7 +129,7 @@ fn mode_sense(h: Header, state: State, tape: Tape, q: Request, buf: &mut [u8]) -
     let asked = q.length;
     let device = q.page % 64 == DEVICE_PAGE;
     if device {
-        let bytes = device_mode(h, state.speed, FLOPPY_MODE, tape.bseg as u16);
+        let bytes = device_mode(h, state, FLOPPY_MODE, tape.bseg as u16);
         return reply(&bytes, asked, state, buf);
     }
     let parameters = q.page % 64 == TAPE_PAGE;
@@ -207,6 +208,7 @@ pub fn work(
         Command::ModeSense => mode_sense(h, state, tape, q, buf),
         Command::LoadUnload => load_unload(state, is_set(q.length, 1)),
         Command::Locate => end(stand_at(state, q.target), Ending::Good, 0, 0),
+        Command::PreventAllow => prevent_allow(state, is_set(q.length, 1)),
         _ => end(state, Ending::Good, 0, 0), // 00h, and 10h, which only flushes
     }
 }

@@ -20,7 +20,7 @@ use Rattle.image.specs.Sameness.{SameElement, Outside}
 use Rattle.image.proofs.HeaderLaws.{good-header}
 use Rattle.opcodes.specs.declared.Command.{Command}
 use Rattle.opcodes.specs.declared.Command.the-variants.{Unknown, TestUnitReady, Rewind, RequestSense, Read, Write, WriteFilemarks, Space, Inquiry}
-use Rattle.opcodes.specs.declared.Command.the-variants.{ModeSelect, ModeSense, LoadUnload, Locate, ReadPosition}
+use Rattle.opcodes.specs.declared.Command.the-variants.{ModeSelect, ModeSense, LoadUnload, Locate, ReadPosition, PreventAllow}
 use Rattle.transfer.specs.declared.Stop.{Stop}
 use Rattle.transfer.specs.declared.Stop.the-variants.{Full, AtFilemark, AtBadBlock, AtEnd, AtBeginning}
 use Rattle.transfer.specs.Reading.{readFrom}
@@ -39,11 +39,11 @@ use Rattle.packet_state.specs.States.{speeds, highestKey, atPlace, withSpeed}
 use Rattle.packet_parts.specs.declared.requests.Request.{Request}
 use Rattle.packet_parts.specs.Answers.{Left, done, ends, endsBefore}
 use Rattle.packet_parts.specs.Replies.{senseBytes, devicePage, shortList, fullList, modeHeader, devicePageBytes, firstOf, replyEnds, repliedInto}
-use Rattle.packet_parts.specs.Requests.{pageCode, loadBit}
+use Rattle.packet_parts.specs.Requests.{pageCode, loadBit, preventBit}
 use Rattle.packet_parts.specs.Shell.{carriedOut}
 use Rattle.packet_work.specs.Moving.{readMoves}
 use Rattle.packet_work.specs.Replies.{replyWork}
-use Rattle.packet_work.specs.Settings.{listSpeed, loadWork}
+use Rattle.packet_work.specs.Settings.{listSpeed, loadWork, lockWork}
 use Rattle.packet_work.proofs.SettingLaws.{good-speed}
 use Rattle.packet_laws.specs.Words.{numberOf, blocksOf, bytesOf, gives}
 use Rattle.packet_laws.proofs.Endings.{senseOf, ends-is}
@@ -172,7 +172,7 @@ module _ (s : List ℕ) (f : Floppy) (q : Request) (buf : List ℕ) (full : isFu
   mode-length = by (eqb (pageCode q) devicePage) (eqb (pageCode q) tapePage)
     where
       by : (a b : Bool)
-          → length (if a then modeHeader h (fullList - 1) ++ devicePageBytes h (st .speed) floppyMode (t .bseg) else if b then tapeMode h t else
+          → length (if a then modeHeader h (fullList - 1) ++ devicePageBytes h st floppyMode (t .bseg) else if b then tapeMode h t else
           modeHeader h (shortList - 1)) ≡ (if a then fullList else if b then tapeList else shortList)
       by true b = refl
       by false true = refl
@@ -195,6 +195,10 @@ module _ (s : List ℕ) (f : Floppy) (q : Request) (buf : List ℕ) (full : isFu
       let e = reset-product (h .capacity) in
       quiet LoadUnload _ (resetTape (h .capacity)) Good 0 (omega arith) (omega arith) (kept-rules .speed) (omega arith)
   loads false = quiet LoadUnload _ t Good 0 (kept-rules .within) (omega arith) (kept-rules .speed) (omega arith)
+
+  locks : (prevent : Bool) → Leaves s f PreventAllow buf (beside (done (lockWork st prevent) s buf) t)
+  unfolding lockWork
+  locks prevent = let r = kept-rules in quiet PreventAllow _ t Good 0 (r .within) (r .place) (r .speed) (omega arith)
 
   reads : n * h .size ≤ length buf → Leaves s f Read buf (beside (readWork s h end st n buf) t)
   unfolding readWork readEnds
@@ -262,6 +266,7 @@ module _ (s : List ℕ) (f : Floppy) (q : Request) (buf : List ℕ) (full : isFu
       let m = leb-false end (blockNumber q) b in
       quiet Locate (atPlace st (blockNumber q)) t Good 0 (kept-rules .within) (omega arith) (kept-rules .speed) (omega arith)
   work-leaves ReadPosition b l = plain ReadPosition Good 0 (omega arith)
+  work-leaves PreventAllow b l = locks (preventBit q)
 
 -- every packet that is not refused
 module _ (s : List ℕ) (f : Floppy) (packet buf : List ℕ) where

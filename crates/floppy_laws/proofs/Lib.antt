@@ -1,9 +1,11 @@
 pub mod Keeping
 pub mod Leaving
 pub mod Locating
+pub mod Locking
 pub mod Marked
 pub mod PlateTable
 pub mod ReadingBack
+pub mod Records
 pub mod Refusals
 pub mod Selecting
 pub mod Speeds

@@ -8,12 +8,12 @@ use Rattle.image.specs.Header.{fieldsOf}
 use Rattle.image.proofs.HeaderLaws.{good-header}
 use Rattle.opcodes.specs.declared.Command.{Command}
 use Rattle.opcodes.specs.declared.Command.the-variants.{Unknown, TestUnitReady, Rewind, RequestSense, Read, Write, WriteFilemarks, Space, Inquiry}
-use Rattle.opcodes.specs.declared.Command.the-variants.{ModeSelect, ModeSense, LoadUnload, Locate, ReadPosition}
+use Rattle.opcodes.specs.declared.Command.the-variants.{ModeSelect, ModeSense, LoadUnload, Locate, ReadPosition, PreventAllow}
 use Rattle.packet_state.specs.declared.state.Outcome.{Outcome}
 use Rattle.packet_state.specs.declared.state.State.{State}
 use Rattle.packet_parts.specs.declared.requests.Request.{Request}
 use Rattle.packet_parts.specs.Replies.{replyEnds}
-use Rattle.packet_work.specs.Settings.{loadWork}
+use Rattle.packet_work.specs.Settings.{loadWork, lockWork}
 use Rattle.packet_laws.specs.Words.{markedOf}
 use Rattle.packet_laws.proofs.Endings.{ends-unmarked}
 use Rattle.packet_laws.proofs.Marked.{CountsMarked, read-counts, read-within, marked-counted as any-device}
@@ -37,7 +37,7 @@ module _ (s : List ℕ) (h : Header) (st : State) (t : Tape) (q : Request) (buf 
   list-unmarked (nothing-set e) = ends-unmarked _ _ _ _
 
   unmarked : (c : Command) → (c ≡ Read → ⊥) → markedOf (workOf c s h st t q buf) ≡ 0
-  unfolding workOf writeWork writeEnds loadWork replyEnds
+  unfolding workOf writeWork writeEnds loadWork lockWork replyEnds
   unmarked Unknown n = ends-unmarked _ _ _ _
   unmarked TestUnitReady n = ends-unmarked _ _ _ _
   unmarked Rewind n = ends-unmarked _ _ _ _
@@ -52,6 +52,7 @@ module _ (s : List ℕ) (h : Header) (st : State) (t : Tape) (q : Request) (buf 
   unmarked LoadUnload n = ends-unmarked _ _ _ _
   unmarked Locate n = ends-unmarked _ _ _ _
   unmarked ReadPosition n = ends-unmarked _ _ _ _
+  unmarked PreventAllow n = ends-unmarked _ _ _ _
 
 counts-marked : CountsMarked floppyDevice
 unfolding workOf readWork readEnds

@@ -1,4 +1,4 @@
--- The plates of 02, A1, A2 and A6, computed.
+-- The plates of 02, A1, A2, A6 and A8, computed.
 -- Assumes nothing.
 use native.Mathlib.Omega.{arith}
 use mathlib.Core.Path.{refl}
@@ -16,7 +16,7 @@ use Rattle.packet_parts.specs.Replies.{firstOf, replyEnds}
 use Rattle.packet_parts.specs.Requests.{requestUnder}
 use Rattle.packet_parts.specs.Shell.{carriedOut, decided, answersTo}
 use Rattle.packet_parts.specs.Verdicts.{foundFirst, verdictBy}
-use Rattle.packet_work.specs.Settings.{goodList, speedWork, loadWork}
+use Rattle.packet_work.specs.Settings.{goodList, speedWork, loadWork, lockWork}
 use Rattle.floppy_parts.specs.Checks.{askedBy}
 use Rattle.floppy_parts.specs.Headers.{isFull}
 use Rattle.floppy_parts.specs.Requests.{floppyRequest}
@@ -25,7 +25,7 @@ use Rattle.floppy_parts.specs.Tape.{product, resetTape, listedTape}
 use Rattle.floppy_parts.specs.Settings.{goodTapeList, selectedTape, loadedTape, tapeAfter}
 use Rattle.floppy.specs.Packet.{mounted}
 use Rattle.floppy.specs.Work.{readEnding, readEnds, readWork, writeEnding, writeEnds, writeWork, placeUnder, tapeWork, selectWork, workOf}
-use Rattle.floppy_laws.specs.Demands.{PlatesPrint, SpeedPlates, MarkedPlates, WorkBegins}
+use Rattle.floppy_laws.specs.Demands.{PlatesPrint, SpeedPlates, MarkedPlates, DoorPlates, WorkBegins}
 
 pub plates-print : PlatesPrint
 unfolding answersTo decided carriedOut verdictBy foundFirst askedBy floppyRequest requestUnder keepsRecordRules keepsFloppyRules floppyCommand
@@ -52,6 +52,27 @@ unfolding answersTo decided carriedOut verdictBy foundFirst askedBy floppyReques
     isFull keepsHeaderRules fieldsOf allHold isIn kindOf kindAt blockAt layBlock stopAt readFrom markedFrom layFrom ends readEnding readEnds readWork
     writeEnding writeEnds writeWork product resetTape listedTape workOf tapeAfter
 marked-plates = record { clear = refl; deleting = refl; set = refl }
+
+pub door-plates : DoorPlates
+unfolding answersTo decided carriedOut verdictBy foundFirst askedBy floppyRequest requestUnder keepsRecordRules keepsFloppyRules floppyCommand
+    isFull keepsHeaderRules fieldsOf allHold isIn ends firstOf replyEnds loadWork lockWork product resetTape workOf loadedTape tapeAfter mounted
+door-plates =
+    record {
+      table = refl;
+      open-shown = refl;
+      locked-shown = refl;
+      unlocked-shown = refl;
+      locks = record { passes = record { twelve = refl; good = refl; ruly = refl }; attended = refl; prevent-allow = refl };
+      unloads = (
+        record { passes = record { twelve = refl; good = refl; ruly = refl }; attended = refl; load-unload = refl; load-clear = refl },
+        refl,
+      );
+      open-unloads = (
+        record { passes = record { twelve = refl; good = refl; ruly = refl }; attended = refl; load-unload = refl; load-clear = refl },
+        refl,
+      );
+      asks = record { begins = record { not-refused = refl; works = refl }; mode-sense = refl; page = refl; asked = omega arith };
+    }
 
 pub work-begins : WorkBegins
 unfolding answersTo decided carriedOut verdictBy foundFirst askedBy floppyRequest requestUnder keepsRecordRules keepsFloppyRules floppyCommand

@@ -7,14 +7,14 @@ use Rattle.numbers.proofs.Cases.{settles}
 use Rattle.image.specs.declared.header.Header.{Header}
 use Rattle.opcodes.specs.declared.Command.{Command}
 use Rattle.opcodes.specs.declared.Command.the-variants.{Unknown, TestUnitReady, Rewind, RequestSense, Read, Write, WriteFilemarks, Space, Inquiry}
-use Rattle.opcodes.specs.declared.Command.the-variants.{ModeSelect, ModeSense, LoadUnload, Locate, ReadPosition}
+use Rattle.opcodes.specs.declared.Command.the-variants.{ModeSelect, ModeSense, LoadUnload, Locate, ReadPosition, PreventAllow}
 use Rattle.packet_state.specs.declared.state.Ending.{Ending}
 use Rattle.packet_state.specs.declared.state.Outcome.{Outcome}
 use Rattle.packet_state.specs.declared.state.State.{State}
 use Rattle.packet_parts.specs.declared.requests.Request.{Request}
 use Rattle.packet_parts.specs.Answers.{Left, ends}
 use Rattle.packet_parts.specs.Replies.{replyEnds}
-use Rattle.packet_work.specs.Settings.{loadWork}
+use Rattle.packet_work.specs.Settings.{loadWork, lockWork}
 use Rattle.packet_laws.specs.Words.{numberOf, Working}
 use Rattle.packet_laws.proofs.Endings.{ends-is}
 use Rattle.packet_laws.proofs.Refusals as any-device
@@ -40,7 +40,7 @@ select-number (tape-wrong e x) = ends-number _ _ _ _
 select-number (nothing-set e) = ends-number _ _ _ _
 
 work-number : (c : Command) (s : List ℕ) (h : Header) (st : State) (t : Tape) (q : Request) (buf : List ℕ) → numberOf (workOf c s h st t q buf) ≡ 0
-unfolding workOf readWork readEnds writeWork writeEnds loadWork replyEnds
+unfolding workOf readWork readEnds writeWork writeEnds loadWork lockWork replyEnds
 work-number Unknown s h st t q buf = ends-number _ _ _ _
 work-number TestUnitReady s h st t q buf = ends-number _ _ _ _
 work-number Rewind s h st t q buf = ends-number _ _ _ _
@@ -55,6 +55,7 @@ work-number ModeSense s h st t q buf = ends-number _ _ _ _
 work-number LoadUnload s h st t q buf = ends-number _ _ _ _
 work-number Locate s h st t q buf = ends-number _ _ _ _
 work-number ReadPosition s h st t q buf = ends-number _ _ _ _
+work-number PreventAllow s h st t q buf = ends-number _ _ _ _
 
 pub working : Working floppyDevice
 working = record { accepted = λ s f packet buf p l. work-number _ _ _ _ _ _ _ }

@@ -14,7 +14,7 @@ use Rattle.image.specs.declared.header.Header.{Header}
 use Rattle.image.specs.Header.{fieldsOf}
 use Rattle.opcodes.specs.declared.Command.{Command}
 use Rattle.opcodes.specs.declared.Command.the-variants.{Unknown, TestUnitReady, Rewind, RequestSense, Read, Write, WriteFilemarks, Space, Inquiry}
-use Rattle.opcodes.specs.declared.Command.the-variants.{ModeSelect, ModeSense, LoadUnload, Locate, ReadPosition}
+use Rattle.opcodes.specs.declared.Command.the-variants.{ModeSelect, ModeSense, LoadUnload, Locate, ReadPosition, PreventAllow}
 use Rattle.packet_state.specs.declared.state.Ending.the-variants.{Good, Check}
 use Rattle.packet_state.specs.declared.state.Outcome.{Outcome}
 use Rattle.packet_state.specs.declared.state.State.{State}
@@ -150,6 +150,7 @@ other-tape ModeSense h t q buf a b = refl
 other-tape LoadUnload h t q buf a b = absurd (b refl)
 other-tape Locate h t q buf a b = refl
 other-tape ReadPosition h t q buf a b = refl
+other-tape PreventAllow h t q buf a b = refl
 
 pub select-exactly : SelectExactly
 unfolding workOf tapeAfter loadedTape

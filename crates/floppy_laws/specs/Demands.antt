@@ -14,13 +14,14 @@ use Rattle.image.specs.declared.elements.Kind.the-variants.{Data, Marked}
 use Rattle.image.specs.Header.{fieldsOf, headerLength}
 use Rattle.opcodes.specs.declared.Command.the-variants.{Read, Write, ModeSelect, LoadUnload, Locate}
 use Rattle.packet_state.specs.declared.state.Attention.the-variants.{Nothing}
-use Rattle.packet_state.specs.States.{speeds, withSpeed, withSense}
+use Rattle.packet_state.specs.States.{speeds, withLocked, withSpeed, withSense}
 use Rattle.packet_state.specs.Senses.{invalidField, wrongList}
 use Rattle.packet_parts.specs.Answers.{goodStatus}
 use Rattle.packet_parts.specs.Requests.{loadBit}
-use Rattle.packet_laws.specs.Plates.{standing, sent, SpeedPlates as SpeedPlatesOf, markedImage, markedPlates, allMarkedAgree}
+use Rattle.packet_laws.specs.Plates.{standing, sent, SpeedPlates as SpeedPlatesOf, markedImage, markedPlates, allMarkedAgree, DoorPlates as DoorPlatesOf}
 use Rattle.packet_laws.specs.Promises.{CutPacket as CutPacketOf, RefusedKeeps as RefusedKeepsOf, NumberExactly as NumberExactlyOf}
 use Rattle.packet_laws.specs.Promises.{BeginsExactly as BeginsExactlyOf, SpeedFollows as SpeedFollowsOf, MarkedCounted as MarkedCountedOf}
+use Rattle.packet_laws.specs.Promises.{LockFollows as LockFollowsOf, LockedStays as LockedStaysOf}
 use Rattle.packet_laws.specs.Words.{numberOf, statusOf, blocksOf, bytesOf, residueOf}
 use Rattle.floppy_parts.specs.declared.tape.Floppy.{Floppy}
 use Rattle.floppy_parts.specs.declared.tape.FloppyOutcome.{FloppyOutcome}
@@ -59,6 +60,20 @@ SpeedFollows = SpeedFollowsOf floppyDevice
 -- 02, A6: a READ's answer says how many of the blocks that it copied have kind 4, every other answer 0.
 abbrev pub MarkedCounted : Type 0
 MarkedCounted = MarkedCountedOf floppyDevice
+
+-- 02, A8: 1Eh sets the lock as its bit says, loaded or not, no other packet turns it, and page 2Ah shows it.
+abbrev pub LockFollows : Type 0
+LockFollows = LockFollowsOf floppyDevice
+
+-- 02, A8: while locked, no packet but 1Eh with bit 0 clear unlocks, and no packet at all unloads. An unload of a locked drive ends with 5/53/02, and only the
+-- sense is new; an open drive unloads; and the lock stops nothing else.
+abbrev pub LockedStays : Type 0
+LockedStays = LockedStaysOf floppyDevice
+
+-- 02, A8: "a locked flag, false when fresh and kept through a cartridge change", also through one that is refused
+pub record LockStarts : Type 0 where
+  pub fresh : (s : List ℕ) (f : Floppy) → isFull s ≡ true → freshFloppy s f .state .shared .locked ≡ false
+  pub changed : (s : List ℕ) (f : Floppy) → changedFloppy s f .state .shared .locked ≡ f .shared .locked
 
 -- What an accepted packet leaves is again accepted: U is still C, the product within C, and P within the product.
 abbrev pub StaysGood : Type 0
@@ -214,6 +229,12 @@ pub record MarkedPlates : Type 0 where
   pub clear : allMarkedAgree floppyDevice placed (markedPlates 0) ≡ true
   pub deleting : placedDeleting 0 .tape .reported .deleted ≡ true
   pub set : allMarkedAgree floppyDevice placedDeleting (markedPlates 0) ≡ true
+
+-- 02, A8: the lock, worked out by hand; made fresh where it was locked at 3.
+abbrev pub DoorPlates : Type 0
+DoorPlates =
+    DoorPlatesOf floppyDevice (image 0) (placed 2) (freshFloppy (image 0) (floppyOf (withLocked (standing 3) true) (resetTape 4)) .state)
+    (λ f. changedFloppy (image 0) f .state)
 
 -- What is asked above can be so: a READ and a WRITE that begin and move a block, a list of 28 bytes that is taken and one that is not, a marked block.
 pub record WorkBegins : Type 0 where

@@ -9,7 +9,7 @@ use Rattle.opcodes.proofs.Command
 use Rattle.image.specs.declared.header.Header.{Header}
 use Rattle.opcodes.specs.declared.Command.{Command}
 use Rattle.opcodes.specs.declared.Command.the-variants.{Unknown, TestUnitReady, Rewind, RequestSense, Read, Write, WriteFilemarks, Space, Inquiry}
-use Rattle.opcodes.specs.declared.Command.the-variants.{ModeSelect, ModeSense, LoadUnload, Locate, ReadPosition}
+use Rattle.opcodes.specs.declared.Command.the-variants.{ModeSelect, ModeSense, LoadUnload, Locate, ReadPosition, PreventAllow}
 use Rattle.packet_parts.specs.declared.requests.Request.{Request}
 use Rattle.packet_parts.specs.Verdicts.{noCommand}
 use Rattle.floppy_parts.specs.Checks.{askedBy}
@@ -37,3 +37,4 @@ none-asked ModeSense h end q o = absurd (miss foreign 10 tt o)
 none-asked LoadUnload h end q o = absurd (miss foreign 11 tt o)
 none-asked Locate h end q o = absurd (miss foreign 12 tt o)
 none-asked ReadPosition h end q o = refl
+none-asked PreventAllow h end q o = absurd (miss foreign 14 tt o)

@@ -12,7 +12,7 @@ use Rattle.opcodes.proofs.Command
 use Rattle.image.specs.declared.header.Header.{Header}
 use Rattle.opcodes.specs.declared.Command.{Command}
 use Rattle.opcodes.specs.declared.Command.the-variants.{Unknown, TestUnitReady, Rewind, RequestSense, Read, Write, WriteFilemarks, Space, Inquiry}
-use Rattle.opcodes.specs.declared.Command.the-variants.{ModeSelect, ModeSense, LoadUnload, Locate, ReadPosition}
+use Rattle.opcodes.specs.declared.Command.the-variants.{ModeSelect, ModeSense, LoadUnload, Locate, ReadPosition, PreventAllow}
 use Rattle.packet_parts.specs.declared.requests.Request.{Request}
 use Rattle.floppy_parts.specs.declared.tape.Tape.{Tape}
 use Rattle.numbers.proofs.RuleLaws.{split}
@@ -28,7 +28,7 @@ good-within h list e =
 
 -- the tags of the commands that set nothing
 abbrev pub idle : List ℕ
-idle = 0 ∷ 1 ∷ 2 ∷ 3 ∷ 4 ∷ 5 ∷ 6 ∷ 7 ∷ 8 ∷ 10 ∷ 12 ∷ 13 ∷ []
+idle = 0 ∷ 1 ∷ 2 ∷ 3 ∷ 4 ∷ 5 ∷ 6 ∷ 7 ∷ 8 ∷ 10 ∷ 12 ∷ 13 ∷ 14 ∷ []
 
 pub kept-tape : (k : Command) (h : Header) (t : Tape) (q : Request) (list : List ℕ) → OneOf idle (tagOf Command.the-type k) → t ≡ tapeAfter k h t q list
 unfolding tapeAfter
@@ -46,3 +46,4 @@ kept-tape ModeSense h t q list o = refl
 kept-tape LoadUnload h t q list o = absurd (miss idle 11 tt o)
 kept-tape Locate h t q list o = refl
 kept-tape ReadPosition h t q list o = refl
+kept-tape PreventAllow h t q list o = refl

@@ -58,6 +58,6 @@ tapeMode h t = modeHeader h (tapeList - 1) ++ tapePageBytes t
 -- header and page of each page code; "0 the length after itself"
 abbrev pub modeBytes : Header → State → Tape → Request → List ℕ
 modeBytes h st t q =
-    if pageCode q ≡ᵇ devicePage then modeHeader h (fullList - 1) ++ devicePageBytes h (st .speed) floppyMode (t .bseg) else
+    if pageCode q ≡ᵇ devicePage then modeHeader h (fullList - 1) ++ devicePageBytes h st floppyMode (t .bseg) else
     if pageCode q ≡ᵇ tapePage then tapeMode h t else
     modeHeader h (shortList - 1)

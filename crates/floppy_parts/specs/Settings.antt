@@ -7,7 +7,7 @@ use Rattle.numbers.specs.Choice.{if_then_else_, _≡ᵇ_, _≤ᵇ_}
 use Rattle.image.specs.declared.header.Header.{Header}
 use Rattle.opcodes.specs.declared.Command.{Command}
 use Rattle.opcodes.specs.declared.Command.the-variants.{Unknown, TestUnitReady, Rewind, RequestSense, Read, Write, WriteFilemarks, Space, Inquiry}
-use Rattle.opcodes.specs.declared.Command.the-variants.{ModeSelect, ModeSense, LoadUnload, Locate, ReadPosition}
+use Rattle.opcodes.specs.declared.Command.the-variants.{ModeSelect, ModeSense, LoadUnload, Locate, ReadPosition, PreventAllow}
 use Rattle.packet_parts.specs.declared.requests.Request.{Request}
 use Rattle.packet_parts.specs.Requests.{loadBit}
 use Rattle.floppy_parts.specs.declared.tape.Tape.{Tape}
@@ -44,3 +44,4 @@ tapeAfter ModeSense h t q list = t
 tapeAfter LoadUnload h t q list = loadedTape h t (loadBit q)
 tapeAfter Locate h t q list = t
 tapeAfter ReadPosition h t q list = t
+tapeAfter PreventAllow h t q list = t

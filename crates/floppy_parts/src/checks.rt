@@ -19,6 +19,7 @@ use packet_parts::requests::Request;
 use packet_parts::requests::transfer_bytes;
 use packet_parts::verdicts::Asked;
 use packet_parts::verdicts::always;
+use packet_parts::verdicts::loading;
 use packet_parts::verdicts::no_command;
 use packet_parts::verdicts::on_tape;
 use packet_parts::verdicts::settings;
@@ -52,8 +53,9 @@ fn asked_by(command: Command, h: Header, end: u32, q: Request) -> Asked
         Command::Inquiry => always(least(n, INQUIRY_LENGTH)),
         Command::ModeSelect => settings(false, bad_length(n), n),
         Command::ModeSense => settings(bad_page(q.page % 64), false, least(n, mode_length(q.page))),
-        Command::LoadUnload => settings(false, false, 0),
+        Command::LoadUnload => loading(false, !is_set(q.length, 1)),
         Command::Locate => on_tape(end <= q.target, 0),
+        Command::PreventAllow => settings(false, false, 0),
         _ => no_command(),
     }
 }

@@ -5,7 +5,7 @@ use mathlib.Core.List.{List, [], _∷_}
 use Rattle.numbers.specs.Choice.{if_then_else_, _≡ᵇ_}
 use Rattle.opcodes.specs.declared.Command.{Command}
 use Rattle.opcodes.specs.declared.Command.the-variants.{Unknown, TestUnitReady, Rewind, RequestSense, Read, Write, WriteFilemarks, Space}
-use Rattle.opcodes.specs.declared.Command.the-variants.{Inquiry, ModeSelect, ModeSense, LoadUnload, Locate, ReadPosition}
+use Rattle.opcodes.specs.declared.Command.the-variants.{Inquiry, ModeSelect, ModeSense, LoadUnload, Locate, ReadPosition, PreventAllow}
 
 pub record Supported : Type 0 where
   pub opcode : ℕ
@@ -15,7 +15,7 @@ infix 70 _is_
 abbrev _is_ : ℕ → Command → Supported
 o is c = record { opcode = o; command = c }
 
--- the thirteen commands of 01's "The packet record and answers"
+-- the thirteen commands of 01's "The packet record and answers"; 02, A8: "Add PREVENT/ALLOW MEDIUM REMOVAL (1Eh ..)"
 abbrev pub streamCommands : List Supported
 streamCommands =
     0x00 is TestUnitReady
@@ -31,9 +31,10 @@ streamCommands =
     ∷ 0x1b is LoadUnload
     ∷ 0x2b is Locate
     ∷ 0x34 is ReadPosition
+    ∷ 0x1e is PreventAllow
     ∷ []
 
--- 02, A1: the ten commands of the floppy tape device, "blocks by number, no filemarks"
+-- 02, A1: the ten commands of the floppy tape device, "blocks by number, no filemarks"; and that of A8
 abbrev pub floppyCommands : List Supported
 floppyCommands =
     0x00 is TestUnitReady
@@ -46,6 +47,7 @@ floppyCommands =
     ∷ 0x1a is ModeSense
     ∷ 0x1b is LoadUnload
     ∷ 0x2b is Locate
+    ∷ 0x1e is PreventAllow
     ∷ []
 
 abbrev pub lookUp : List Supported → ℕ → Command
@@ -59,7 +61,7 @@ streamCommand x = lookUp streamCommands x
 unfoldable pub floppyCommand : ℕ → Command
 floppyCommand x = lookUp floppyCommands x
 
--- the numbers that a table holds for the commands, in the order of their opcodes; 0 is unknown
+-- the numbers that a table holds for the commands, those of 01 in the order of their opcodes; 0 is unknown
 unfoldable pub commandOfClass : ℕ → Command
 commandOfClass k =
     if k ≡ᵇ 1 then TestUnitReady else
@@ -75,4 +77,5 @@ commandOfClass k =
     if k ≡ᵇ 11 then LoadUnload else
     if k ≡ᵇ 12 then Locate else
     if k ≡ᵇ 13 then ReadPosition else
+    if k ≡ᵇ 14 then PreventAllow else
     Unknown

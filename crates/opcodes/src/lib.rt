@@ -17,6 +17,7 @@ pub enum Command {
     LoadUnload, // 1Bh
     Locate, // 2Bh
     ReadPosition, // 34h
+    PreventAllow, // 1Eh
 }
 
 const STREAM_CLASSES: [u8; 256] = [
@@ -50,7 +51,7 @@ const STREAM_CLASSES: [u8; 256] = [
     11,
     0,
     0,
-    0,
+    14,
     0,
     0,
     0,
@@ -309,7 +310,7 @@ const FLOPPY_CLASSES: [u8; 256] = [
     11,
     0,
     0,
-    0,
+    14,
     0,
     0,
     0,
@@ -555,6 +556,7 @@ fn command_of_class(class: u8) -> Command
         11 => Command::LoadUnload,
         12 => Command::Locate,
         13 => Command::ReadPosition,
+        14 => Command::PreventAllow,
         _ => Command::Unknown,
     }
 }

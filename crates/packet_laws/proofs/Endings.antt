@@ -22,11 +22,7 @@ unfolding ends
 ends-is st Good blocks bytes = refl
 ends-is st (Check x) blocks bytes = refl
 
--- an ending keeps the speed of the record that it is told
-pub ends-speed : (st : State) (e : Ending) (blocks bytes : ℕ) → ends st e blocks bytes .state .speed ≡ st .speed
-ends-speed st e blocks bytes = rw ends-is
-
--- and tells of no marked block
+-- an ending tells of no marked block
 pub ends-unmarked : (st : State) (e : Ending) (blocks bytes : ℕ) → ends st e blocks bytes .answer .marked ≡ 0
 ends-unmarked st e blocks bytes = rw ends-is
 

@@ -1,6 +1,9 @@
 pub mod Ways
 pub mod Endings
+pub mod Locking
 pub mod Marked
+pub mod Pages
+pub mod Records
 pub mod Refusals
 pub mod Replies
 pub mod Speeds

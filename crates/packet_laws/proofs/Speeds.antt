@@ -1,18 +1,17 @@
 -- The speed through a packet, of any device whose work keeps it.
 -- Assumes nothing.
-use Prim.Native.Nat.{ℕ, _+_, _≤_, min}
+use Prim.Native.Nat.{ℕ, _+_, _≤_}
 use native.Mathlib.Omega.{arith}
 use mathlib.Core.Bool.{Bool, true, false, not, false≢true}
 use mathlib.Core.List.{List}
 use mathlib.Core.Logic.{_↔_}
 use mathlib.Core.Path.{_≡_, refl, ap, _∙_}
-use lib.ListN.{length}
 use Rattle.numbers.specs.Choice.{if_then_else_}
 use Rattle.numbers.specs.Member.{isIn}
 use Rattle.numbers.proofs.CountLaws.{count-by-bytes}
 use Rattle.image.specs.declared.header.Header.{Header}
 use Rattle.image.specs.Header.{fieldsOf}
-use Rattle.opcodes.specs.declared.Command.the-variants.{ModeSelect, ModeSense}
+use Rattle.opcodes.specs.declared.Command.the-variants.{ModeSelect}
 use Rattle.packet_state.specs.declared.state.Ending.the-variants.{Good, Check}
 use Rattle.packet_state.specs.declared.state.Outcome.{Outcome}
 use Rattle.packet_state.specs.declared.state.State.{State}
@@ -20,22 +19,21 @@ use Rattle.packet_state.specs.Senses.{wrongList}
 use Rattle.packet_state.specs.States.{speeds, withSpeed}
 use Rattle.packet_state.proofs.RecordLaws.{speed-most}
 use Rattle.packet_parts.specs.declared.requests.Request.{Request}
-use Rattle.packet_parts.specs.Answers.{Left, ends, endedBefore, goodStatus}
-use Rattle.packet_parts.specs.Replies.{devicePage, shortList, fullList, repliedInto}
-use Rattle.packet_parts.specs.Requests.{pageCode}
-use Rattle.packet_parts.specs.Shell.{Device, carriedOut, answersTo}
+use Rattle.packet_parts.specs.Answers.{Left, ends, goodStatus}
+use Rattle.packet_parts.specs.Replies.{shortList, fullList}
+use Rattle.packet_parts.specs.Shell.{Device, answersTo}
 use Rattle.packet_work.specs.Replies.{deviceMode}
 use Rattle.packet_work.specs.Settings.{listSpeed, goodList, speedWork}
 use Rattle.packet_laws.specs.Promises.{SpeedFollows}
 use Rattle.packet_laws.specs.Words.{statusOf, AsksSpeed, SendsSpeed, Working}
-use Rattle.packet_laws.proofs.Refusals.{begins-passes, begins-room, begins-work, works-begins}
-use Rattle.packet_laws.proofs.Replies.{reply-at}
-use Rattle.packet_laws.proofs.Ways.{Way, cut, broken, unruly, short, ends-early, works, way}
+use Rattle.packet_laws.proofs.Pages.{GivesPage, meant, page-at}
+use Rattle.packet_laws.proofs.Records.{KeepsRecord, packet-keeps}
+use Rattle.packet_laws.proofs.Refusals.{begins-passes, begins-work}
 
 -- ---- the list that 1Ah gives
 
-page-speed : (h : Header) (speed byte4 unit : ℕ) → speed ≤ 500 → listSpeed (deviceMode h speed byte4 unit) ≡ speed
-page-speed h speed byte4 unit l = omega arith
+page-speed : (h : Header) (st : State) (byte4 unit : ℕ) → st .speed ≤ 500 → listSpeed (deviceMode h st byte4 unit) ≡ st .speed
+page-speed h st byte4 unit l = omega arith
 
 -- ---- the list that 15h takes, good or wrong
 
@@ -56,46 +54,27 @@ module _ (st : State) (list : List ℕ) where
   unfolding speedWork ends
   list-set e = rw e
 
-  pub list-left : goodList list ≡ false → speedWork st list .state .speed ≡ st .speed
-  unfolding speedWork ends
-  list-left e = rw e
-
 -- ---- a device whose work keeps the speed
 
--- its work gives the record's speed in page 2Ah, whatever else of the page is the device's own, does with a list of 32 bytes what 01 has, and leaves the speed
--- otherwise
+-- its work gives the record's page 2Ah, does with a list of 32 bytes what 01 has, and leaves the speed otherwise
 pub record KeepsSpeed {R : Type 0} (d : Device R) : Type 0 where
-  pub byte4 : R → ℕ
-  pub unit : R → ℕ
-  pub shares : (st : R) (x : State) → d .shared (d .withShared st x) ≡ x
+  pub page : GivesPage d
+  pub stays : KeepsRecord d
   pub ruled : (h : Header) (st : R) → d .keepsRules h st ≡ true → isIn (d .shared st .speed) speeds ≡ true
-  pub needs : (h : Header) (st : R) (q : Request) → q .command ≡ ModeSense → pageCode q ≡ devicePage → d .asks h st q .needed ≡ min (q .length) fullList
-  pub gives : (s : List ℕ) (h : Header) (st : R) (q : Request) (buf : List ℕ) → q .command ≡ ModeSense → pageCode q ≡ devicePage
-      → d .work s h st q buf .buf ≡ repliedInto (deviceMode h (d .shared st .speed) (byte4 st) (unit st)) (q .length) buf
   pub answers : (s : List ℕ) (h : Header) (st : R) (q : Request) (list : List ℕ) → q .command ≡ ModeSelect → q .length ≡ fullList
       → d .work s h st q list .answer ≡ speedWork (d .shared st) list .answer
   pub takes : (s : List ℕ) (h : Header) (st : R) (q : Request) (list : List ℕ) → q .command ≡ ModeSelect → q .length ≡ fullList
       → d .shared (d .work s h st q list .state) ≡ speedWork (d .shared st) list .state
-  pub leaves : (s : List ℕ) (h : Header) (st : R) (q : Request) (buf : List ℕ)
-      → (q .command ≡ ModeSelect → q .length ≡ fullList → goodList buf ≡ true → ⊥) → d .shared (d .work s h st q buf .state) .speed ≡ d .shared st .speed
 
 -- ---- any packet
 
 module _ {R : Type 0} (d : Device R) (keeps : KeepsSpeed d) (s : List ℕ) (st : R) (packet buf : List ℕ) where
   told : AsksSpeed d s st packet buf → listSpeed (answersTo d s st packet buf .buf) ≡ d .shared st .speed
   told t =
-      let q = d .request packet in
-      let h = fieldsOf s in
-      let page = deviceMode h (d .shared st .speed) (keeps .byte4 st) (keeps .unit st) in
-      let whole : length page ≡ fullList = refl in
-      let room = begins-room d s st packet buf (t .begins) in
-      let needed = keeps .needs h st q (t .mode-sense) (t .page) in
-      let few = speed-most (d .shared st .speed) (keeps .ruled h st (begins-passes d s st packet buf (t .begins) .ruly)) in
-      ap (λ (x : Left R). listSpeed (x .buf)) (begins-work d s st packet buf (t .begins))
-      ∙ ap listSpeed (keeps .gives s h st q buf (t .mode-sense) (t .page))
-      ∙ count-by-bytes (repliedInto page (q .length) buf) page (shortList + 14) 2
-      (λ i a b. reply-at page buf (q .length) i (omega (arith, t .asked)) (omega arith) (omega arith))
-      ∙ page-speed h (d .shared st .speed) (keeps .byte4 st) (keeps .unit st) few
+      let few = speed-most (d .shared st .speed) (keeps .ruled (fieldsOf s) st (begins-passes d s st packet buf (t .begins) .ruly)) in
+      count-by-bytes (answersTo d s st packet buf .buf) (meant d (keeps .page) s st packet buf) (shortList + 14) 2
+      (λ i a b. page-at d (keeps .page) s st packet buf t i (omega arith) (omega arith))
+      ∙ page-speed (fieldsOf s) (d .shared st) (keeps .page .byte4 st) (keeps .page .unit st) few
 
   module _ (t : SendsSpeed d s st packet buf) where
     answered : answersTo d s st packet buf .answer ≡ speedWork (d .shared st) buf .answer
@@ -114,17 +93,11 @@ module _ {R : Type 0} (d : Device R) (keeps : KeepsSpeed d) (s : List ℕ) (st :
     set : goodList buf ≡ true → d .shared (answersTo d s st packet buf .state) .speed ≡ listSpeed buf
     set g = rw left (list-set (d .shared st) buf g)
 
-  kept : Working d → {x : Left R} → Way d s st packet buf x → (SendsSpeed d s st packet buf → goodList buf ≡ true → ⊥)
-      → d .shared (x .state) .speed ≡ d .shared st .speed
-  unfolding carriedOut
-  kept working (cut n) f = refl
-  kept working (broken t b) f = refl
-  kept working (unruly t g b) f = refl
-  kept working (short p e l) f = refl
-  kept working (ends-early p x e k) f = ap (λ (y : State). y .speed) (keeps .shares st (endedBefore (d .shared st) x))
-  kept working (works p e l) f =
-      let b = works-begins d working s st packet buf p e l in
-      keeps .leaves s (fieldsOf s) st (d .request packet) buf (λ c w g. f (record { begins = b; mode-select = c; whole = w }) g)
+  kept : Working d → (SendsSpeed d s st packet buf → goodList buf ≡ true → ⊥)
+      → d .shared (answersTo d s st packet buf .state) .speed ≡ d .shared st .speed
+  kept working f =
+      packet-keeps d working (keeps .stays) s st packet buf (λ x. x .speed ≡ d .shared st .speed) refl (λ x. refl) (λ b.
+      keeps .stays .keeps s (fieldsOf s) st (d .request packet) buf .speed (λ c w g. f (record { begins = b; mode-select = c; whole = w }) g))
 
 module _ {R : Type 0} (d : Device R) (working : Working d) (keeps : KeepsSpeed d) where
   pub speed-follows : SpeedFollows d
@@ -133,5 +106,5 @@ module _ {R : Type 0} (d : Device R) (working : Working d) (keeps : KeepsSpeed d
         told = λ s st packet buf t. told d keeps s st packet buf t;
         taken = λ s st packet list t. taken d keeps s st packet list t;
         set = λ s st packet list t g. set d keeps s st packet list t g;
-        kept = λ s st packet buf f. kept d keeps s st packet buf working (way d s st packet buf) f;
+        kept = λ s st packet buf f. kept d keeps s st packet buf working f;
       }

@@ -23,16 +23,20 @@ use Rattle.packet_parts.specs.Verdicts.{isProtected, isHeld, endsEarly}
 use Rattle.packet_parts.proofs.VerdictLaws.{Early, Found, found-early, found-short, found-clear, found}
 use Rattle.packet_laws.specs.Words.{roomFor, Unended, Passes}
 
-third-false : (a b c d e f : Bool) → (a || b || c || d || e || f) ≡ false → c ≡ false
-third-false true b c d e f q = absurd (true≢false q)
-third-false false true c d e f q = absurd (true≢false q)
-third-false false false true d e f q = q
-third-false false false false d e f q = refl
+third-fifth-false : (a b c d e f g : Bool) → (a || b || c || d || e || f || g) ≡ false → (c ≡ false) × (e ≡ false)
+third-fifth-false true b c d e f g q = absurd (true≢false q)
+third-fifth-false false true c d e f g q = absurd (true≢false q)
+third-fifth-false false false true d e f g q = absurd (true≢false q)
+third-fifth-false false false false true e f g q = absurd (true≢false q)
+third-fifth-false false false false false true f g q = absurd (true≢false q)
+third-fifth-false false false false false false f g q = (refl, refl)
 
-field-fine : (a : Asked) (protected : Bool) (st : State) → endsEarly a protected st ≡ false → a .field ≡ false
+-- nothing ended it: no field of it is bad, and it does not unload a locked drive
+none-found : (a : Asked) (protected : Bool) (st : State) → endsEarly a protected st ≡ false → (a .field ≡ false) × ((a .unloads && st .locked) ≡ false)
 unfolding endsEarly
-field-fine a protected st =
-    third-false (isHeld (st .attention) (a .exempt)) (not (a .known)) (a .field) (a .length) (a .mounted && not (st .loaded)) (a .stores && protected)
+none-found a protected st =
+    third-fifth-false (isHeld (st .attention) (a .exempt)) (not (a .known)) (a .field) (a .length) (a .unloads && st .locked)
+    (a .mounted && not (st .loaded)) (a .stores && protected)
 
 module _ {R : Type 0} (d : Device R) (s : List ℕ) (st : R) (packet buf : List ℕ) where
   abbrev pub FoundFor : Verdict → Type 0
@@ -76,9 +80,11 @@ module _ {R : Type 0} (d : Device R) (s : List ℕ) (st : R) (packet buf : List 
   unfolding answersTo
   way = by-tests _ _ _ refl refl refl
 
-  -- nothing ended it, so no field of it is bad
   pub unended-field : Unended d s st packet buf → d .asks (fieldsOf s) st (d .request packet) .field ≡ false
-  unended-field e = field-fine _ _ _ e
+  unended-field e = none-found _ _ _ e .0
+
+  pub unended-door : Unended d s st packet buf → (d .asks (fieldsOf s) st (d .request packet) .unloads && d .shared st .locked) ≡ false
+  unended-door e = none-found _ _ _ e .1
 
   -- past 1, 2 and 3 the verdict decides
   pub step-passed : Passes d s st packet buf → answersTo d s st packet buf ≡ carried (foundBy d (fieldsOf s) st (d .request packet) (length buf))

@@ -1,7 +1,7 @@
--- What plates of any packet device are made of: an image, a record, a packet, and what must come; and the plates of 02, A2 and A6.
+-- What plates of any packet device are made of: an image, a record, a packet, and what must come; and the plates of 02, A2, A6 and A8.
 -- Assumes nothing.
 use Prim.Native.Nat.{ℕ, _*_}
-use mathlib.Core.Bool.{Bool, true, false, _&&_}
+use mathlib.Core.Bool.{Bool, true, false, not, _&&_}
 use mathlib.Core.List.{List, [], _∷_, _++_}
 use mathlib.Core.Path.{_≡_}
 use lib.ListN.{replicate, set, getD}
@@ -15,7 +15,7 @@ use Rattle.packet_parts.specs.Answers.{Left, goodStatus, checkCondition}
 use Rattle.packet_parts.specs.Replies.{senseBytes}
 use Rattle.packet_parts.specs.Shell.{Device, answersTo}
 use Rattle.packet_work.specs.Settings.{goodList}
-use Rattle.packet_laws.specs.Words.{numberOf, statusOf, blocksOf, bytesOf, markedOf, AsksSpeed, SendsSpeed}
+use Rattle.packet_laws.specs.Words.{numberOf, statusOf, blocksOf, bytesOf, markedOf, AsksSpeed, SendsSpeed, AsksDoor, Locks, Unloads}
 
 -- 01: "Image C 4, B 512", with this W, this U and these four kinds
 abbrev pub plateImage : ℕ → ℕ → List ℕ → List ℕ
@@ -164,3 +164,114 @@ module _ {R : Type 0} (d : Device R) (placed : ℕ → R) where
   abbrev pub allMarkedAgree : List MarkedPlate → Bool
   allMarkedAgree [] = true
   allMarkedAgree (p ∷ ps) = markedAgrees p (answersTo d markedImage (placed (p .before)) (p .packet) (replicate 2048 9)) && allMarkedAgree ps
+
+-- ---- 02, A8, worked out by hand: locking the door
+
+-- 1Eh and 1Bh with this byte 4: 1Eh locks by bit 0, 1Bh loads by bit 0; of 1Bh 2 is retension and 4 EOT
+abbrev pub prevent : ℕ → List ℕ
+prevent byte4 = sent 0x1e 0 0 0 byte4 0 0
+
+abbrev pub load : ℕ → List ℕ
+load byte4 = sent 0x1b 0 0 0 byte4 0 0
+
+-- what is sent to a record, and what must come: P, loaded, locked, and the bytes that 03h would give
+pub record DoorPlate (R : Type 0) : Type 0 where
+  pub before : R
+  pub packet : List ℕ
+  pub place : ℕ
+  pub loaded : Bool
+  pub locked : Bool
+  pub told : List ℕ
+
+-- a plate in one line
+infix 80 from_send_P_loaded_locked_sense_
+abbrev pub from_send_P_loaded_locked_sense_ : {R : Type 0} → R → List ℕ → ℕ → Bool → Bool → List ℕ → DoorPlate R
+from st send packet P p loaded l locked k sense x = record { before = st; packet = packet; place = p; loaded = l; locked = k; told = x }
+
+-- 5/53/02, 6/28/00 and 6/29/00
+abbrev pub prevented : List ℕ
+prevented = senseOf 0x70 0x05 0 0x53 0x02
+
+abbrev pub mediumChanged : List ℕ
+mediumChanged = senseOf 0x70 0x06 0 0x28 0
+
+abbrev pub wasReset : List ℕ
+wasReset = senseOf 0x70 0x06 0 0x29 0
+
+abbrev pub alike : Bool → Bool → Bool
+alike a b = if a then b else not b
+
+-- of a drive that stands at 2, and one whose fresh record and cartridge change are these
+module _ {R : Type 0} (d : Device R) (s : List ℕ) (standsAtTwo fresh : R) (changed : R → R) where
+  -- the record after this packet, which takes no bytes and gives none
+  abbrev pub after : R → List ℕ → R
+  after st packet = answersTo d s st packet [] .state
+
+  abbrev pub lockedAtTwo : R
+  lockedAtTwo = after standsAtTwo (prevent 1)
+
+  abbrev pub unlocked : R
+  unlocked = after (after lockedAtTwo (load 0)) (prevent 0)
+
+  abbrev pub emptied : R
+  emptied = after unlocked (load 0)
+
+  abbrev pub emptyLocked : R
+  emptyLocked = after emptied (prevent 1)
+
+  abbrev pub doorPlates : List (DoorPlate R)
+  doorPlates =
+      -- lock; "Unloading while locked ends with 5/53/02; the position stays."; unlock; unload
+      from standsAtTwo send (prevent 1) P 2 loaded true locked true sense nothingTold
+      ∷ from lockedAtTwo send (load 0) P 2 loaded true locked true sense prevented
+      ∷ from (after lockedAtTwo (load 0)) send (prevent 0) P 2 loaded true locked false sense nothingTold
+      ∷ from unlocked send (load 0) P 0 loaded false locked false sense nothingTold
+      -- an unload with retension, and with EOT, is one too
+      ∷ from lockedAtTwo send (load 2) P 2 loaded true locked true sense prevented
+      ∷ from lockedAtTwo send (load 4) P 2 loaded true locked true sense prevented
+      -- "1Eh has no not-ready check": on a drive that is not loaded; an unload of it is stopped too, a load is not
+      ∷ from emptied send (prevent 1) P 0 loaded false locked true sense nothingTold
+      ∷ from emptyLocked send (load 0) P 0 loaded false locked true sense prevented
+      ∷ from emptyLocked send (load 1) P 0 loaded true locked true sense nothingTold
+      ∷ from lockedAtTwo send (load 1) P 0 loaded true locked true sense nothingTold
+      -- "byte 4 bit 0": the others are ignored
+      ∷ from lockedAtTwo send (prevent 0xfe) P 2 loaded true locked false sense nothingTold
+      ∷ from standsAtTwo send (prevent 0xff) P 2 loaded true locked true sense nothingTold
+      -- "kept through a cartridge change": the pending attention is told first, then the unload is stopped
+      ∷ from (changed lockedAtTwo) send (load 0) P 0 loaded true locked true sense mediumChanged
+      ∷ from (after (changed lockedAtTwo) (load 0)) send (load 0) P 0 loaded true locked true sense prevented
+      ∷ from (changed unlocked) send (load 0) P 0 loaded true locked false sense mediumChanged
+      -- a pending attention ends 1Eh as any other packet
+      ∷ from (changed standsAtTwo) send (prevent 1) P 0 loaded true locked false sense mediumChanged
+      ∷ from (changed lockedAtTwo) send (prevent 0) P 0 loaded true locked true sense mediumChanged
+      -- "false when fresh"
+      ∷ from fresh send (load 0) P 0 loaded true locked false sense wasReset
+      ∷ []
+
+  -- what came is what the plate says
+  abbrev pub doorAgrees : DoorPlate R → Left R → Bool
+  doorAgrees p x =
+      (numberOf x ≡ᵇ 0) && (statusOf x ≡ᵇ statusBeside (p .told)) && (blocksOf x ≡ᵇ 0) && (bytesOf x ≡ᵇ 0)
+      && (d .shared (x .state) .position ≡ᵇ p .place) && alike (d .shared (x .state) .loaded) (p .loaded) && alike (d .shared (x .state) .locked) (p .locked)
+      && same (senseBytes (d .shared (x .state) .sense)) (p .told)
+
+  -- each plate of the table
+  abbrev pub allDoorsAgree : List (DoorPlate R) → Bool
+  allDoorsAgree [] = true
+  allDoorsAgree (p ∷ ps) = doorAgrees p (answersTo d s (p .before) (p .packet) []) && allDoorsAgree ps
+
+  -- byte 6 of page 2Ah, which 1Ah gives after a header of 12 bytes
+  abbrev pub doorTold : R → ℕ
+  doorTold st = getD (answersTo d s st askSpeed (replicate 32 9) .buf) 18 0
+
+  pub record DoorPlates : Type 0 where
+    pub table : allDoorsAgree doorPlates ≡ true
+    -- "Page 2Ah shows LOCK (01h) always and LOCKED (02h) while locked, in byte 6.", beside 01's 08h
+    pub open-shown : doorTold standsAtTwo ≡ 0x09
+    pub locked-shown : doorTold lockedAtTwo ≡ 0x0b
+    pub unlocked-shown : doorTold unlocked ≡ 0x09
+    -- so what `LockFollows` and `LockedStays` suppose can be so
+    pub locks : Locks d s emptied (prevent 1) []
+    pub unloads : Unloads d s lockedAtTwo (load 0) [] × (d .shared lockedAtTwo .locked ≡ true)
+    pub open-unloads : Unloads d s unlocked (load 0) [] × (d .shared unlocked .locked ≡ false)
+    pub asks : AsksDoor d s lockedAtTwo askSpeed (replicate 32 9)

@@ -9,12 +9,14 @@ use Rattle.numbers.specs.Choice.{if_then_else_, _≡ᵇ_}
 use Rattle.image.specs.Header.{fieldsOf, brokenImage}
 use Rattle.opcodes.specs.declared.Command.{Command}
 use Rattle.opcodes.specs.declared.Command.the-variants.{Unknown, TestUnitReady, Rewind, RequestSense, Read, Write, WriteFilemarks, Space, Inquiry}
-use Rattle.opcodes.specs.declared.Command.the-variants.{ModeSelect, ModeSense, LoadUnload, Locate, ReadPosition}
+use Rattle.opcodes.specs.declared.Command.the-variants.{ModeSelect, ModeSense, LoadUnload, Locate, ReadPosition, PreventAllow}
+use Rattle.packet_state.specs.declared.state.Attention.the-variants.{Nothing}
 use Rattle.packet_state.specs.declared.state.Sense.{Sense}
+use Rattle.packet_state.specs.declared.state.State.{State}
 use Rattle.packet_state.specs.declared.state.Verdict.the-variants.{Works}
-use Rattle.packet_parts.specs.Answers.{Left, notTwelveBytes, unrulyRecord, shortBuffer}
+use Rattle.packet_parts.specs.Answers.{Left, answered, notTwelveBytes, unrulyRecord, shortBuffer}
 use Rattle.packet_parts.specs.Replies.{devicePage, shortList, fullList}
-use Rattle.packet_parts.specs.Requests.{packetLength, pageCode}
+use Rattle.packet_parts.specs.Requests.{packetLength, pageCode, loadBit}
 use Rattle.packet_parts.specs.Shell.{Device, foundBy, endsFirst, answersTo}
 
 -- ---- an answer's parts
@@ -54,6 +56,7 @@ gives ModeSense = true
 gives LoadUnload = false
 gives Locate = false
 gives ReadPosition = true
+gives PreventAllow = false
 
 -- how many of these bytes of a kind table are 4: 02, A6: "Kind 4 becomes "data, marked"."
 abbrev pub markedAmong : List ℕ → ℕ
@@ -77,7 +80,7 @@ module _ {R : Type 0} (d : Device R) (s : List ℕ) (st : R) (packet buf : List 
   abbrev pub roomFor : ℕ
   roomFor = d .asks (fieldsOf s) st (d .request packet) .needed
 
-  -- 01: "attention, opcode, fields, not ready, protection": one of these ends the packet before refusal 4 is looked at
+  -- 01: "attention, opcode, fields, not ready, protection", and the lock of 02, A8: one of these ends the packet before refusal 4 is looked at
   abbrev pub Unended : Type 0
   Unended = endsFirst d (fieldsOf s) st (d .request packet) ≡ false
 
@@ -100,20 +103,47 @@ module _ {R : Type 0} (d : Device R) (s : List ℕ) (st : R) (packet buf : List 
     pub not-refused : numberOf (answersTo d s st packet buf) ≡ 0
     pub works : foundBy d (fieldsOf s) st (d .request packet) (length buf) ≡ Works
 
-  -- ---- 02, A2: the speed
-
-  -- "MODE SENSE bytes 14-15": 1Ah of page 2Ah that begins, and asks for all up to byte 15 of the page, which stands after the header
-  pub record AsksSpeed : Type 0 where
+  -- 1Ah of page 2Ah that begins, and asks for the first n bytes of the page, which stands after the header
+  pub record AsksPage (n : ℕ) : Type 0 where
     pub begins : Begins
     pub mode-sense : d .request packet .command ≡ ModeSense
     pub page : pageCode (d .request packet) ≡ devicePage
-    pub asked : shortList + 16 ≤ d .request packet .length
+    pub asked : shortList + n ≤ d .request packet .length
+
+  -- ---- 02, A2: the speed
+
+  -- "MODE SENSE bytes 14-15": it asks for all up to byte 15 of the page
+  abbrev pub AsksSpeed : Type 0
+  AsksSpeed = AsksPage 16
 
   -- "by 15h": with a list of 32 bytes that begins
   pub record SendsSpeed : Type 0 where
     pub begins : Begins
     pub mode-select : d .request packet .command ≡ ModeSelect
     pub whole : d .request packet .length ≡ fullList
+
+  -- ---- 02, A8: the lock
+
+  -- "Page 2Ah shows .. in byte 6": it asks for all up to that byte
+  abbrev pub AsksDoor : Type 0
+  AsksDoor = AsksPage 7
+
+  -- "Unloading": 1Bh with the load bit clear, past 1, 2 and 3 and with no attention pending
+  pub record Unloads : Type 0 where
+    pub passes : Passes
+    pub attended : d .shared st .attention ≡ Nothing
+    pub load-unload : d .request packet .command ≡ LoadUnload
+    pub load-clear : loadBit (d .request packet) ≡ false
+
+  -- "PREVENT/ALLOW MEDIUM REMOVAL (1Eh ..)", past 1, 2 and 3 and with no attention pending
+  pub record Locks : Type 0 where
+    pub passes : Passes
+    pub attended : d .shared st .attention ≡ Nothing
+    pub prevent-allow : d .request packet .command ≡ PreventAllow
+
+  -- what is left where the packet ends with this status and moves nothing, and of the record the shared part is new
+  abbrev pub leavesOnly : ℕ → State → Left R
+  leavesOnly status next = record { answer = answered status 0 0; state = d .withShared st next; image = s; buf = buf }
 
 -- the device's work refuses nothing: a packet that comes to it is given 0
 pub record Working {R : Type 0} (d : Device R) : Type 0 where

@@ -12,7 +12,7 @@ use Rattle.packet_state.specs.declared.state.Sense.{Sense}
 use Rattle.packet_state.specs.declared.state.State.{State}
 use Rattle.packet_state.specs.declared.state.Verdict.{Verdict}
 use Rattle.packet_state.specs.declared.state.Verdict.the-variants.{Refuses, Ends, Works}
-use Rattle.packet_state.specs.Senses.{unitAttention, invalidOpcode, invalidField, wrongListLength, notLoaded, writeProtected}
+use Rattle.packet_state.specs.Senses.{unitAttention, invalidOpcode, invalidField, wrongListLength, removalPrevented, notLoaded, writeProtected}
 use Rattle.packet_parts.specs.declared.verdicts.Asked.{Asked}
 use Rattle.packet_parts.specs.Answers.{shortBuffer}
 use Rattle.packet_parts.specs.Verdicts.{foundFirst, verdictBy, endsEarly}
@@ -32,21 +32,22 @@ module _ (a : Asked) (protected : Bool) (st : State) (room : ℕ) where
   attention-early MediumChanged = omega arith
   attention-early Reset = omega arith
 
-  found-by : (t u f l m k g : Bool) → endsEarly a protected st ≡ (t || u || f || l || m || k) → ltb room (a .needed) ≡ g
-      → Found (foundFirst (st .attention) t u f l m k g)
+  found-by : (t u f l d m k g : Bool) → endsEarly a protected st ≡ (t || u || f || l || d || m || k) → ltb room (a .needed) ≡ g
+      → Found (foundFirst (st .attention) t u f l d m k g)
   unfolding foundFirst
-  found-by true u f l m k g p e = found-early (unitAttention (st .attention)) p (attention-early (st .attention))
-  found-by false true f l m k g p e = found-early invalidOpcode p (omega arith)
-  found-by false false true l m k g p e = found-early invalidField p (omega arith)
-  found-by false false false true m k g p e = found-early wrongListLength p (omega arith)
-  found-by false false false false true k g p e = found-early notLoaded p (omega arith)
-  found-by false false false false false true g p e = found-early writeProtected p (omega arith)
-  found-by false false false false false false true p e = found-short p (ltb-true room _ e)
-  found-by false false false false false false false p e = found-clear p (ltb-false room _ e)
+  found-by true u f l d m k g p e = found-early (unitAttention (st .attention)) p (attention-early (st .attention))
+  found-by false true f l d m k g p e = found-early invalidOpcode p (omega arith)
+  found-by false false true l d m k g p e = found-early invalidField p (omega arith)
+  found-by false false false true d m k g p e = found-early wrongListLength p (omega arith)
+  found-by false false false false true m k g p e = found-early removalPrevented p (omega arith)
+  found-by false false false false false true k g p e = found-early notLoaded p (omega arith)
+  found-by false false false false false false true g p e = found-early writeProtected p (omega arith)
+  found-by false false false false false false false true p e = found-short p (ltb-true room _ e)
+  found-by false false false false false false false false p e = found-clear p (ltb-false room _ e)
 
   pub found : Found (verdictBy a protected st room)
   unfolding verdictBy endsEarly
-  found = found-by _ _ _ _ _ _ _ refl refl
+  found = found-by _ _ _ _ _ _ _ _ refl refl
 
   clear-by : {v : Verdict} → Found v → v ≡ Works → (endsEarly a protected st ≡ false) × (a .needed ≤ room)
   clear-by (found-early x e m) p = let z : _≡_ {A = ℕ} 0 1 = cc in absurd (omega arith)

@@ -1,6 +1,7 @@
 -- The bytes that 03h, 12h and 1Ah give, and the copying of a reply.
 -- Assumes nothing.
 use Prim.Native.Nat.{ℕ, _+_, min}
+use mathlib.Core.Bool.{Bool}
 use mathlib.Core.List.{List, [], _∷_, _++_}
 use lib.ListN.{length, take}
 use Rattle.numbers.specs.Choice.{_≡ᵇ_}
@@ -64,12 +65,16 @@ fullList = 32
 abbrev pub modeHeader : Header → ℕ → List ℕ
 modeHeader h after = after ∷ h .medium ∷ weightOf (isProtected h) 0x80 ∷ 0 ∷ 0 ∷ 0 ∷ 0 ∷ 0 ∷ 0 ∷ 0 ∷ 0 ∷ 0 ∷ []
 
--- "Page 20 bytes: 2Ah 12h; byte 6 08h; byte 7 04h if B is 1024; 8-9 500; 12-13 64; 14-15 speed; 16-17 128; others 0.", with the device's own byte 4 and
--- bytes 12-13
-abbrev pub devicePageBytes : Header → ℕ → ℕ → ℕ → List ℕ
-devicePageBytes h speed byte4 unit =
-    devicePage ∷ devicePageLength ∷ 0 ∷ 0 ∷ byte4 ∷ 0 ∷ 0x08 ∷ weightOf (h .size ≡ᵇ 1024) 0x04
-    ∷ (countBytes 2 500 ++ (0 ∷ 0 ∷ (countBytes 2 unit ++ (countBytes 2 speed ++ (countBytes 2 128 ++ (0 ∷ 0 ∷ []))))))
+-- "byte 6 08h"; 02, A8: "Page 2Ah shows LOCK (01h) always and LOCKED (02h) while locked, in byte 6."
+abbrev pub doorByte : Bool → ℕ
+doorByte locked = 0x08 + 0x01 + weightOf locked 0x02
+
+-- "Page 20 bytes: 2Ah 12h; byte 6 08h; byte 7 04h if B is 1024; 8-9 500; 12-13 64; 14-15 speed; 16-17 128; others 0.", with byte 6 as above, and the
+-- device's own byte 4 and bytes 12-13
+abbrev pub devicePageBytes : Header → State → ℕ → ℕ → List ℕ
+devicePageBytes h st byte4 unit =
+    devicePage ∷ devicePageLength ∷ 0 ∷ 0 ∷ byte4 ∷ 0 ∷ doorByte (st .locked) ∷ weightOf (h .size ≡ᵇ 1024) 0x04
+    ∷ (countBytes 2 500 ++ (0 ∷ 0 ∷ (countBytes 2 unit ++ (countBytes 2 (st .speed) ++ (countBytes 2 128 ++ (0 ∷ 0 ∷ []))))))
 
 -- ---- the first of some bytes
 

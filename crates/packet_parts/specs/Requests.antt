@@ -37,6 +37,10 @@ pageCode q = q .page % 64
 abbrev pub loadBit : Request → Bool
 loadBit q = isSet (q .length) 1
 
+-- 02, A8: "1Eh, byte 4 bit 0"
+abbrev pub preventBit : Request → Bool
+preventBit q = isSet (q .length) 1
+
 -- 08h, 0Ah: "Needs N*B bytes of room."
 abbrev pub blockBytes : Header → ℕ → ℕ
 blockBytes h count = count * h .size

@@ -2,7 +2,7 @@
 ghost use mathlib.Core.Path.{_≡_};
 ghost use Prim.Native.Nat.{_≤_, min};
 ghost use lib.ListN.{length};
-ghost use Rattle.packet_parts.specs.Replies.{senseBytes, inquiryBytes, modeHeader, devicePageBytes, replyEnds, repliedInto};
+ghost use Rattle.packet_parts.specs.Replies.{senseBytes, inquiryBytes, modeHeader, doorByte, devicePageBytes, replyEnds, repliedInto};
 use crate::answers::end;
 use image::header::Header;
 use numbers::copying::copy_block;
@@ -106,20 +106,34 @@ pub fn mode_header(h: Header, after: u8) -> [u8; 12]
     bytes
 }
 
-// Byte 4 and bytes 12-13 are the device's own.
-pub fn device_page(h: Header, speed: u16, byte4: u8, unit: u16) -> [u8; 20]
-    ensures { λ r. ⌜ r ≡ devicePageBytes h speed byte4 unit ⌝ }
+// Byte 6 of the device page: it can eject, it has a lock, and it is locked.
+const EJECT: u8 = 0x08;
+
+const LOCK: u8 = 0x01;
+
+const LOCKED: u8 = 0x02;
+
+fn door_byte(locked: bool) -> u8
+    ensures { λ r. ⌜ r ≡ doorByte locked ⌝ }
 {
+    EJECT + LOCK + weight_of(locked, LOCKED)
+}
+
+// Byte 4 and bytes 12-13 are the device's own.
+pub fn device_page(h: Header, state: State, byte4: u8, unit: u16) -> [u8; 20]
+    ensures { λ r. ⌜ r ≡ devicePageBytes h state byte4 unit ⌝ }
+{
+    let door = door_byte(state.locked);
     let long_blocks = weight_of(h.size == 1024, 0x04);
     let mut bytes = [0; 20];
     bytes[0] = DEVICE_PAGE;
     bytes[1] = DEVICE_PAGE_LENGTH;
     bytes[4] = byte4;
-    bytes[6] = 0x08;
+    bytes[6] = door;
     bytes[7] = long_blocks;
     put_count2(&mut bytes, 8, 500);
     put_count2(&mut bytes, 12, unit);
-    put_count2(&mut bytes, 14, speed);
+    put_count2(&mut bytes, 14, state.speed);
     put_count2(&mut bytes, 16, 128);
     bytes
 }

@@ -1,15 +1,16 @@
-// What is judged before the work: "attention, opcode, fields, not ready, protection, 4".
+// What is judged before the work: "attention, opcode, fields, not ready, protection, 4"; 02, A8: "53/02 stands after the fields check of 1Bh".
 ghost use mathlib.Core.Path.{_≡_};
 use packet_state::senses::invalid_field;
 use packet_state::senses::invalid_opcode;
 use packet_state::senses::not_loaded;
+use packet_state::senses::removal_prevented;
 use packet_state::senses::unit_attention;
 use packet_state::senses::write_protected;
 use packet_state::senses::wrong_list_length;
 use packet_state::state::Attention;
 use packet_state::state::State;
 use packet_state::state::Verdict;
-ghost use Rattle.packet_parts.specs.Verdicts.{noCommand, always, settings, onTape, storing, isHeld, foundFirst, verdictBy};
+ghost use Rattle.packet_parts.specs.Verdicts.{noCommand, always, settings, loading, onTape, storing, isHeld, foundFirst, verdictBy};
 
 const SHORT_BUFFER: u8 = 4;
 
@@ -19,6 +20,7 @@ pub struct Asked {
     pub exempt: bool, // answered whatever attention is pending
     pub field: bool, // a field of the packet is bad
     pub length: bool, // the length of its list is
+    pub unloads: bool, // takes the cartridge out
     pub mounted: bool, // needs a loaded cartridge
     pub stores: bool, // stores on the cartridge
     pub needed: usize, // bytes of room in the buffer: N*B can pass 32 bits
@@ -32,6 +34,7 @@ pub fn no_command() -> Asked
         exempt: false,
         field: false,
         length: false,
+        unloads: false,
         mounted: false,
         stores: false,
         needed: 0,
@@ -46,6 +49,7 @@ pub fn always(needed: usize) -> Asked
         exempt: true,
         field: false,
         length: false,
+        unloads: false,
         mounted: false,
         stores: false,
         needed,
@@ -60,9 +64,25 @@ pub fn settings(field: bool, length: bool, needed: usize) -> Asked
         exempt: false,
         field,
         length,
+        unloads: false,
         mounted: false,
         stores: false,
         needed,
+    }
+}
+
+pub fn loading(field: bool, unloads: bool) -> Asked
+    ensures { λ r. ⌜ r ≡ loading field unloads ⌝ }
+{
+    Asked {
+        known: true,
+        exempt: false,
+        field,
+        length: false,
+        unloads,
+        mounted: false,
+        stores: false,
+        needed: 0,
     }
 }
 
@@ -74,6 +94,7 @@ pub fn on_tape(field: bool, needed: usize) -> Asked
         exempt: false,
         field,
         length: false,
+        unloads: false,
         mounted: true,
         stores: false,
         needed,
@@ -88,6 +109,7 @@ pub fn storing(field: bool, needed: usize) -> Asked
         exempt: false,
         field,
         length: false,
+        unloads: false,
         mounted: true,
         stores: true,
         needed,
@@ -105,18 +127,19 @@ fn is_held(attention: Attention, exempt: bool) -> bool
     }
 }
 
-// The first that holds, in 01's order.
+// The first that holds, in 01's order, the lock after the fields.
 fn found_first(
     attention: Attention,
     held: bool,
     unknown: bool,
     field: bool,
     length: bool,
+    barred: bool,
     absent: bool,
     kept: bool,
     short: bool,
 ) -> Verdict
-    ensures { λ r. ⌜ r ≡ foundFirst attention held unknown field length absent kept short ⌝ }
+    ensures { λ r. ⌜ r ≡ foundFirst attention held unknown field length barred absent kept short ⌝ }
 {
     if held {
         return Verdict::Ends(unit_attention(attention));
@@ -129,6 +152,9 @@ fn found_first(
     }
     if length {
         return Verdict::Ends(wrong_list_length());
+    }
+    if barred {
+        return Verdict::Ends(removal_prevented());
     }
     if absent {
         return Verdict::Ends(not_loaded());
@@ -152,6 +178,7 @@ pub fn verdict_by(asked: Asked, protected: bool, state: State, room: usize) -> V
         !asked.known,
         asked.field,
         asked.length,
+        asked.unloads & state.locked,
         asked.mounted & !state.loaded,
         asked.stores & protected,
         room < asked.needed,

@@ -29,6 +29,7 @@ decodeState s =
     record {
       position = countAt s 0 4;  -- 0-3
       loaded = isSet (getD s 4 0) 1;  -- 4: bit 0
+      locked = isSet (getD s 4 0) 2;  -- 4: bit 1
       attention = attentionOf (getD s 5 0);  -- 5
       speed = countAt s 6 2;  -- 6-7
       sense =
@@ -47,7 +48,7 @@ decodeState s =
 unfoldable pub encodeState : State → List ℕ
 encodeState st =
     countBytes 4 (st .position)  -- 0-3
-    ++ (weightOf (st .loaded) 1  -- 4
+    ++ ((weightOf (st .loaded) 1 + weightOf (st .locked) 2)  -- 4
     ∷ attentionByte (st .attention)  -- 5
     ∷ (countBytes 2 (st .speed)  -- 6-7
     ++ (st .sense .key  -- 8

@@ -38,6 +38,7 @@ pub fn decode_state(bytes: &[u8]) -> State
     requires { ⌜ 16 ≤ length (now bytes) ⌝ }
     ensures { λ r. ⌜ r ≡ decodeState (now (bytes .entry)) ⌝ }
 {
+    let door = bytes[4];
     let flags = bytes[11];
     let sense = Sense {
         key: bytes[8],
@@ -50,7 +51,8 @@ pub fn decode_state(bytes: &[u8]) -> State
     };
     State {
         position: count4(bytes, 0),
-        loaded: is_set(bytes[4], 1),
+        loaded: is_set(door, 1),
+        locked: is_set(door, 2),
         attention: attention_of(bytes[5]),
         speed: count2(bytes, 6),
         sense,
@@ -62,10 +64,11 @@ pub fn encode_state(state: State) -> [u8; 16]
 {
     let attention = state.attention;
     let sense = state.sense;
+    let door = weight_of(state.loaded, 1) + weight_of(state.locked, 2);
     let flags = weight_of(sense.valid, 1) + weight_of(sense.eom, 2) + weight_of(sense.filemark, 4);
     let mut bytes = [0; 16];
     put_count4(&mut bytes, 0, state.position);
-    bytes[4] = weight_of(state.loaded, 1);
+    bytes[4] = door;
     bytes[5] = attention_byte(attention);
     put_count2(&mut bytes, 6, state.speed);
     bytes[8] = sense.key;

@@ -44,6 +44,10 @@ invalidField = plain 5 0x24 0
 abbrev pub wrongListLength : Sense
 wrongListLength = plain 5 0x1a 0
 
+-- 02, A8: "Unloading while locked ends with 5/53/02"
+abbrev pub removalPrevented : Sense
+removalPrevented = plain 5 0x53 2
+
 -- "Not loaded 2/3A/00"
 abbrev pub notLoaded : Sense
 notLoaded = plain 2 0x3a 0

@@ -1,7 +1,8 @@
 -- 01: "Record: position P; loaded; attention (none, medium changed, reset); speed; sense (key, ASC, ASCQ, filemark, EOM, valid, information)."
+-- 02, A8: "The packet record gains a locked flag, false when fresh and kept through a cartridge change."
 -- Assumes nothing.
 use Prim.Native.Nat.{ℕ}
-use mathlib.Core.Bool.{Bool, true, _&&_}
+use mathlib.Core.Bool.{Bool, true, false, _&&_}
 use mathlib.Core.List.{List, [], _∷_}
 use Rattle.numbers.specs.Choice.{_≤ᵇ_}
 use Rattle.numbers.specs.Member.{isIn}
@@ -14,27 +15,37 @@ use Rattle.packet_state.specs.Senses.{noSense}
 -- ---- the record with one part replaced
 
 abbrev pub atPlace : State → ℕ → State
-atPlace st x = record { position = x; loaded = st .loaded; attention = st .attention; speed = st .speed; sense = st .sense }
+atPlace st x =
+    record { position = x; loaded = st .loaded; locked = st .locked; attention = st .attention; speed = st .speed; sense = st .sense }
 
 abbrev pub withLoaded : State → Bool → State
-withLoaded st x = record { position = st .position; loaded = x; attention = st .attention; speed = st .speed; sense = st .sense }
+withLoaded st x =
+    record { position = st .position; loaded = x; locked = st .locked; attention = st .attention; speed = st .speed; sense = st .sense }
+
+abbrev pub withLocked : State → Bool → State
+withLocked st x =
+    record { position = st .position; loaded = st .loaded; locked = x; attention = st .attention; speed = st .speed; sense = st .sense }
 
 abbrev pub withAttention : State → Attention → State
-withAttention st x = record { position = st .position; loaded = st .loaded; attention = x; speed = st .speed; sense = st .sense }
+withAttention st x =
+    record { position = st .position; loaded = st .loaded; locked = st .locked; attention = x; speed = st .speed; sense = st .sense }
 
 abbrev pub withSpeed : State → ℕ → State
-withSpeed st x = record { position = st .position; loaded = st .loaded; attention = st .attention; speed = x; sense = st .sense }
+withSpeed st x =
+    record { position = st .position; loaded = st .loaded; locked = st .locked; attention = st .attention; speed = x; sense = st .sense }
 
 abbrev pub withSense : State → Sense → State
-withSense st x = record { position = st .position; loaded = st .loaded; attention = st .attention; speed = st .speed; sense = x }
+withSense st x =
+    record { position = st .position; loaded = st .loaded; locked = st .locked; attention = st .attention; speed = st .speed; sense = x }
 
 -- ---- the records that 01 names
 
--- "Fresh: P 0, loaded, attention reset, speed 0, sense zero."; 02, A2: "The fresh record's speed becomes 250 instead of 0."
+-- "Fresh: P 0, loaded, attention reset, speed 0, sense zero."; 02, A2: "The fresh record's speed becomes 250 instead of 0."; A8: "false when fresh"
 abbrev pub freshState : State
-freshState = record { position = 0; loaded = true; attention = Reset; speed = 250; sense = noSense }
+freshState = record { position = 0; loaded = true; locked = false; attention = Reset; speed = 250; sense = noSense }
 
--- "Changing the cartridge (never refused) sets only P 0, loaded, attention medium changed, sense zero."
+-- "Changing the cartridge (never refused) sets only P 0, loaded, attention medium changed, sense zero."; 02, A8: the locked flag is "kept through a cartridge
+-- change"
 abbrev pub changedState : State → State
 changedState st = withSense (withAttention (withLoaded (atPlace st 0) true) MediumChanged) noSense
 

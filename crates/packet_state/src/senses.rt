@@ -1,8 +1,8 @@
 // The sense of each ending: key, ASC, ASCQ, and what a stop adds.
 ghost use mathlib.Core.Path.{_≡_};
 ghost use Rattle.packet_state.specs.Senses.{plain, stopped, noSense, unitAttention, invalidOpcode, invalidField, wrongListLength, notLoaded};
-ghost use Rattle.packet_state.specs.Senses.{writeProtected, filemarkDetected, unreadableBlock, endOfData, volumeOverflow, earlyWarning};
-ghost use Rattle.packet_state.specs.Senses.{beginningOfTape, beyondData, wrongList};
+ghost use Rattle.packet_state.specs.Senses.{removalPrevented, writeProtected, filemarkDetected, unreadableBlock, endOfData, volumeOverflow};
+ghost use Rattle.packet_state.specs.Senses.{earlyWarning, beginningOfTape, beyondData, wrongList};
 use crate::state::Attention;
 use crate::state::Sense;
 
@@ -82,6 +82,12 @@ pub fn wrong_list_length() -> Sense
     ensures { λ r. ⌜ r ≡ wrongListLength ⌝ }
 {
     plain_sense(ILLEGAL_REQUEST, 0x1A, 0x00)
+}
+
+pub fn removal_prevented() -> Sense
+    ensures { λ r. ⌜ r ≡ removalPrevented ⌝ }
+{
+    plain_sense(ILLEGAL_REQUEST, 0x53, 0x02)
 }
 
 pub fn not_loaded() -> Sense

@@ -1,6 +1,6 @@
 // 01, "The packet record and answers".
 ghost use mathlib.Core.Path.{_≡_};
-ghost use Rattle.packet_state.specs.States.{atPlace, withLoaded, withAttention, withSpeed, withSense, freshState, changedState};
+ghost use Rattle.packet_state.specs.States.{atPlace, withLoaded, withLocked, withAttention, withSpeed, withSense, freshState, changedState};
 use crate::senses::no_sense;
 
 pub enum Attention {
@@ -22,6 +22,7 @@ pub struct Sense {
 pub struct State {
     pub position: u32, // P
     pub loaded: bool,
+    pub locked: bool, // 02, A8: the door
     pub attention: Attention,
     pub speed: u16,
     pub sense: Sense,
@@ -71,6 +72,14 @@ pub fn with_loaded(state: State, loaded: bool) -> State
     next
 }
 
+pub fn with_locked(state: State, locked: bool) -> State
+    ensures { λ r. ⌜ r ≡ withLocked state locked ⌝ }
+{
+    let mut next = state;
+    next.locked = locked;
+    next
+}
+
 pub fn with_attention(state: State, attention: Attention) -> State
     ensures { λ r. ⌜ r ≡ withAttention state attention ⌝ }
 {
@@ -78,6 +87,7 @@ pub fn with_attention(state: State, attention: Attention) -> State
     State {
         position: state.position,
         loaded: state.loaded,
+        locked: state.locked,
         attention,
         speed: state.speed,
         sense,
@@ -102,20 +112,22 @@ pub fn with_sense(state: State, sense: Sense) -> State
 
 // ---- the records that 01 names
 
-// 01: "Fresh: P 0, loaded, attention reset, speed 0, sense zero."; 02, A2: "The fresh record's speed becomes 250 instead of 0."
+// 01: "Fresh: P 0, loaded, attention reset, speed 0, sense zero."; 02, A2: "The fresh record's speed becomes 250 instead of 0."; A8: "a locked flag, false
+// when fresh".
 pub fn fresh_state() -> State
     ensures { λ r. ⌜ r ≡ freshState ⌝ }
 {
     State {
         position: 0,
         loaded: true,
+        locked: false,
         attention: Attention::Reset,
         speed: 250,
         sense: no_sense(),
     }
 }
 
-// 01: "Changing the cartridge (never refused) sets only P 0, loaded, attention medium changed, sense zero."
+// 01: "Changing the cartridge (never refused) sets only P 0, loaded, attention medium changed, sense zero."; 02, A8: the locked flag is "kept".
 pub fn changed_state(state: State) -> State
     ensures { λ r. ⌜ r ≡ changedState state ⌝ }
 {

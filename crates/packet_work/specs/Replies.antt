@@ -11,5 +11,5 @@ abbrev pub replyWork : List ℕ → ℕ → State → List ℕ → List ℕ → 
 replyWork bytes asked st s buf = done (replyEnds bytes asked st) s (repliedInto bytes asked buf)
 
 -- 1Ah: "0 the length after itself", header and device page
-abbrev pub deviceMode : Header → ℕ → ℕ → ℕ → List ℕ
-deviceMode h speed byte4 unit = modeHeader h (fullList - 1) ++ devicePageBytes h speed byte4 unit
+abbrev pub deviceMode : Header → State → ℕ → ℕ → List ℕ
+deviceMode h st byte4 unit = modeHeader h (fullList - 1) ++ devicePageBytes h st byte4 unit

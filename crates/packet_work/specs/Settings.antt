@@ -1,4 +1,4 @@
--- 15h with a list of 32 bytes, and 1Bh.
+-- 15h with a list of 32 bytes, 1Bh and 1Eh.
 -- Assumes nothing.
 use Prim.Native.Nat.{ℕ, _+_}
 use mathlib.Core.Bool.{Bool, not, _&&_}
@@ -11,7 +11,7 @@ use Rattle.packet_state.specs.declared.state.Ending.the-variants.{Good, Check}
 use Rattle.packet_state.specs.declared.state.Outcome.{Outcome}
 use Rattle.packet_state.specs.declared.state.State.{State}
 use Rattle.packet_state.specs.Senses.{wrongList}
-use Rattle.packet_state.specs.States.{speeds, atPlace, withLoaded, withSpeed}
+use Rattle.packet_state.specs.States.{speeds, atPlace, withLoaded, withLocked, withSpeed}
 use Rattle.packet_parts.specs.Answers.{ends}
 use Rattle.packet_parts.specs.Replies.{devicePage, devicePageLength, shortList, fullList}
 
@@ -36,3 +36,9 @@ speedWork st list =
 -- "P = 0; loaded as the bit says."
 unfoldable pub loadWork : State → Bool → Outcome
 loadWork st load = ends (withLoaded (atPlace st 0) load) Good 0 0
+
+-- ---- 1Eh PREVENT/ALLOW MEDIUM REMOVAL
+
+-- 02, A8: "1Eh, byte 4 bit 0": locked as the bit says
+unfoldable pub lockWork : State → Bool → Outcome
+lockWork st prevent = ends (withLocked st prevent) Good 0 0

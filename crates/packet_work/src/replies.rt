@@ -37,11 +37,11 @@ pub fn inquiry(device: u8, state: State, asked: u8, buf: &mut [u8]) -> Outcome
 }
 
 // Header and device page: byte 4 and bytes 12-13 of the page are the device's own.
-pub fn device_mode(h: Header, speed: u16, byte4: u8, unit: u16) -> [u8; 32]
-    ensures { λ r. ⌜ r ≡ deviceMode h speed byte4 unit ⌝ }
+pub fn device_mode(h: Header, state: State, byte4: u8, unit: u16) -> [u8; 32]
+    ensures { λ r. ⌜ r ≡ deviceMode h state byte4 unit ⌝ }
 {
     let header = mode_header(h, AFTER_FULL);
-    let page = device_page(h, speed, byte4, unit);
+    let page = device_page(h, state, byte4, unit);
     let mut bytes = [0; 32];
     copy_block(&mut bytes, &header);
     copy_block(&mut bytes[12..], &page);

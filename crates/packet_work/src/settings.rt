@@ -1,8 +1,8 @@
-// The speed that 15h sets, and 1Bh.
+// The speed that 15h sets, 1Bh and 1Eh.
 ghost use mathlib.Core.Path.{_≡_};
 ghost use Prim.Native.Nat.{_≤_};
 ghost use lib.ListN.{length};
-ghost use Rattle.packet_work.specs.Settings.{goodList, speedWork, loadWork};
+ghost use Rattle.packet_work.specs.Settings.{goodList, speedWork, loadWork, lockWork};
 use numbers::counts::count2;
 use packet_parts::answers::end;
 use packet_parts::replies::DEVICE_PAGE;
@@ -16,6 +16,7 @@ use packet_state::state::Outcome;
 use packet_state::state::State;
 use packet_state::state::stand_at;
 use packet_state::state::with_loaded;
+use packet_state::state::with_locked;
 use packet_state::state::with_speed;
 
 // Where the page's speed stands in a list: bytes 14-15 after the header.
@@ -46,4 +47,11 @@ pub fn load_unload(state: State, load: bool) -> Outcome
     ensures { λ r. ⌜ r ≡ loadWork state load ⌝ }
 {
     end(with_loaded(stand_at(state, 0), load), Ending::Good, 0, 0)
+}
+
+// 02, A8: "PREVENT/ALLOW MEDIUM REMOVAL (1Eh, byte 4 bit 0)".
+pub fn prevent_allow(state: State, prevent: bool) -> Outcome
+    ensures { λ r. ⌜ r ≡ lockWork state prevent ⌝ }
+{
+    end(with_locked(state, prevent), Ending::Good, 0, 0)
 }

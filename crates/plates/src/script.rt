@@ -4,7 +4,7 @@
 //   c, f     changes the cartridge, or makes the record fresh
 //   i, r, d  AA AA BYTES: stores bytes in the image, the record, the data buffer
 //   l, m     LL LL: how much of the data buffer, of the image, is lent
-//   x, y     AA AA NN: prints bytes of the data buffer, of the image
+//   x, y, w  AA AA NN: prints bytes of the data buffer, of the image, of the record
 use crate::card;
 use crate::card::Card;
 use lines::line::Bytes;
@@ -69,6 +69,12 @@ fn shown_image(card: Card, bytes: Bytes) -> Card {
     card
 }
 
+fn shown_record(card: Card, bytes: Bytes) -> Card {
+    let state = card.state;
+    show::part(&state, bytes);
+    card
+}
+
 pub fn obey(card: Card, line: &[u8]) -> Card {
     if show::said(line) {
         return card;
@@ -87,6 +93,7 @@ pub fn obey(card: Card, line: &[u8]) -> Card {
         b'm' => with_image(card, bytes),
         b'x' => shown_buffer(card, bytes),
         b'y' => shown_image(card, bytes),
+        b'w' => shown_record(card, bytes),
         _ => card,
     }
 }

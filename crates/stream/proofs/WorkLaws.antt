@@ -8,7 +8,7 @@ use Rattle.image.specs.declared.header.Header.{Header}
 use Rattle.image.specs.Elements.{recordTo}
 use Rattle.opcodes.specs.declared.Command.{Command}
 use Rattle.opcodes.specs.declared.Command.the-variants.{Unknown, TestUnitReady, Rewind, RequestSense, Read, Write, WriteFilemarks, Space, Inquiry}
-use Rattle.opcodes.specs.declared.Command.the-variants.{ModeSelect, ModeSense, LoadUnload, Locate, ReadPosition}
+use Rattle.opcodes.specs.declared.Command.the-variants.{ModeSelect, ModeSense, LoadUnload, Locate, ReadPosition, PreventAllow}
 use Rattle.transfer.specs.declared.Moved.{Moved}
 use Rattle.transfer.specs.Reading.{reads, readFrom}
 use Rattle.transfer.specs.Writing.{writes, writeFrom, markFrom}
@@ -21,9 +21,9 @@ use Rattle.packet_parts.specs.Answers.{done, ends}
 use Rattle.stream_parts.specs.Checks.{askedBy}
 use Rattle.packet_state.specs.States.{atPlace}
 use Rattle.packet_parts.specs.Replies.{senseBytes, modeHeader, replyEnds, repliedInto}
-use Rattle.packet_parts.specs.Requests.{loadBit}
+use Rattle.packet_parts.specs.Requests.{loadBit, preventBit}
 use Rattle.packet_work.specs.Moving.{moves, readMoves}
-use Rattle.packet_work.specs.Settings.{loadWork}
+use Rattle.packet_work.specs.Settings.{loadWork, lockWork}
 use Rattle.stream_parts.specs.Replies.{streamInquiry, hasPage, modePage, modeBytes, positionBytes}
 use Rattle.stream_parts.specs.Requests.{spaceCode}
 use Rattle.stream.specs.Work.{endingOf, readEnds, readWork, writeEnding, writeEnds, writeWork, markWork, spaceWork, selectWork}
@@ -89,6 +89,10 @@ module _ (k : Command) (s : List ℕ) (h : Header) (st : State) (q : Request) (b
   pub was-loaded : (load : Bool) → k ≡ LoadUnload → load ≡ loadBit q → r ≡ loadWork st load → done r s buf ≡ workOf k s h st q buf
   unfolding workOf
   was-loaded load e l p = rw (e, p, l)
+
+  pub was-locked : (prevent : Bool) → k ≡ PreventAllow → prevent ≡ preventBit q → r ≡ lockWork st prevent → done r s buf ≡ workOf k s h st q buf
+  unfolding workOf
+  was-locked prevent e l p = rw (e, p, l)
 
   pub was-located : k ≡ Locate → r ≡ locateWork h st (q .target) → done r s buf ≡ workOf k s h st q buf
   unfolding workOf

@@ -11,7 +11,7 @@ use Rattle.image.specs.Elements.{recordTo}
 use Rattle.image.specs.Header.{headerOf}
 use Rattle.opcodes.specs.declared.Command.{Command}
 use Rattle.opcodes.specs.declared.Command.the-variants.{Unknown, TestUnitReady, Rewind, RequestSense, Read, Write, WriteFilemarks, Space, Inquiry}
-use Rattle.opcodes.specs.declared.Command.the-variants.{ModeSelect, ModeSense, LoadUnload, Locate, ReadPosition}
+use Rattle.opcodes.specs.declared.Command.the-variants.{ModeSelect, ModeSense, LoadUnload, Locate, ReadPosition, PreventAllow}
 use Rattle.transfer.specs.declared.Moved.{Moved}
 use Rattle.transfer.specs.declared.Stop.{Stop}
 use Rattle.transfer.specs.declared.Stop.the-variants.{Full, AtFilemark, AtBadBlock, AtEnd, AtBeginning}
@@ -25,10 +25,10 @@ use Rattle.packet_state.specs.declared.state.State.{State}
 use Rattle.packet_parts.specs.declared.requests.Request.{Request}
 use Rattle.packet_parts.specs.Answers.{Left, done, ends}
 use Rattle.packet_parts.specs.Replies.{senseBytes, fullList}
-use Rattle.packet_parts.specs.Requests.{loadBit}
+use Rattle.packet_parts.specs.Requests.{loadBit, preventBit}
 use Rattle.packet_work.specs.Moving.{moves, readMoves}
 use Rattle.packet_work.specs.Replies.{replyWork}
-use Rattle.packet_work.specs.Settings.{speedWork, loadWork}
+use Rattle.packet_work.specs.Settings.{speedWork, loadWork, lockWork}
 use Rattle.stream_parts.specs.Replies.{streamInquiry, modeBytes, positionBytes, positionLength}
 use Rattle.stream_parts.specs.Requests.{spaceCode, overBlocks, toEndOfData, isBack, magnitude}
 use Rattle.stream_parts.specs.Warning.{pastWarning}
@@ -135,3 +135,4 @@ workOf ModeSense s h st q buf = replyWork (modeBytes h st q) (q .length) st s bu
 workOf LoadUnload s h st q buf = done (loadWork st (loadBit q)) s buf
 workOf Locate s h st q buf = done (locateWork h st (q .target)) s buf
 workOf ReadPosition s h st q buf = replyWork (positionBytes h st) positionLength st s buf
+workOf PreventAllow s h st q buf = done (lockWork st (preventBit q)) s buf

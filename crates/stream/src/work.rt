@@ -38,6 +38,7 @@ use packet_work::replies::device_mode;
 use packet_work::replies::inquiry;
 use packet_work::replies::request_sense;
 use packet_work::settings::load_unload;
+use packet_work::settings::prevent_allow;
 use packet_work::settings::select_speed;
 use stream_parts::replies::POSITION_LENGTH;
 use stream_parts::replies::UNIT_BLOCKS;
@@ -178,7 +179,7 @@ fn mode_sense(h: Header, state: State, q: Request, buf: &mut [u8]) -> Outcome
     let asked = q.length;
     let whole = q.page % 64 == DEVICE_PAGE;
     if whole {
-        let bytes = device_mode(h, state.speed, 0, UNIT_BLOCKS);
+        let bytes = device_mode(h, state, 0, UNIT_BLOCKS);
         return reply(&bytes, asked, state, buf);
     }
     let bytes = mode_header(h, AFTER_SHORT);
@@ -241,5 +242,6 @@ pub fn work(image: &mut [u8], h: Header, state: State, q: Request, buf: &mut [u8
         Command::LoadUnload => load_unload(state, is_set(q.length, 1)),
         Command::Locate => locate(h, state, q.target),
         Command::ReadPosition => read_position(h, state, buf),
+        Command::PreventAllow => prevent_allow(state, is_set(q.length, 1)),
     }
 }

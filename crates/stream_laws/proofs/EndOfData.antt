@@ -14,7 +14,7 @@ use Rattle.image.specs.Header.{fieldsOf, withWarning}
 use Rattle.image.proofs.HeaderLaws.{good-header, sound}
 use Rattle.opcodes.specs.declared.Command.{Command}
 use Rattle.opcodes.specs.declared.Command.the-variants.{Unknown, TestUnitReady, Rewind, RequestSense, Read, Write, WriteFilemarks, Space, Inquiry}
-use Rattle.opcodes.specs.declared.Command.the-variants.{ModeSelect, ModeSense, LoadUnload, Locate, ReadPosition}
+use Rattle.opcodes.specs.declared.Command.the-variants.{ModeSelect, ModeSense, LoadUnload, Locate, ReadPosition, PreventAllow}
 use Rattle.transfer.specs.declared.Moved.{Moved}
 use Rattle.transfer.specs.declared.Stop.{Stop}
 use Rattle.transfer.specs.declared.Stop.the-variants.{Full, AtFilemark, AtBadBlock, AtEnd, AtBeginning}
@@ -28,7 +28,7 @@ use Rattle.packet_parts.specs.Answers.{Left, shortBuffer, done, ends, withMarke
 use Rattle.packet_parts.specs.Replies.{fullList, replyEnds}
 use Rattle.packet_parts.specs.Shell.{refuses, carriedOut}
 use Rattle.packet_parts.proofs.VerdictLaws.{found-early, found-short, found-clear}
-use Rattle.packet_work.specs.Settings.{goodList, speedWork, loadWork}
+use Rattle.packet_work.specs.Settings.{goodList, speedWork, loadWork, lockWork}
 use Rattle.packet_laws.specs.Words.{Passes}
 use Rattle.packet_laws.proofs.Endings.{ends-none}
 use Rattle.packet_laws.proofs.Ways.{FoundFor, carried, way-beside}
@@ -77,6 +77,7 @@ work-now ModeSense s h st q buf = refl
 work-now LoadUnload s h st q buf = refl
 work-now Locate s h st q buf = refl
 work-now ReadPosition s h st q buf = refl
+work-now PreventAllow s h st q buf = refl
 
 -- ---- before, no 8/00/05 carried EOM
 
@@ -114,7 +115,7 @@ ends-plain st (Check x) blocks bytes f t = rw t at f
 
 work-plain : (c : Command) (s : List ℕ) (h : Header) (st : State) (q : Request) (buf : List ℕ) → h .recorded ≤ h .capacity
     → Plain (workOf c s (seenBefore c h) st q buf)
-unfolding workOf readWork readEnds writeWork writeEnds markWork spaceRun spaceWork selectWork speedWork locateWork loadWork replyEnds
+unfolding workOf readWork readEnds writeWork writeEnds markWork spaceRun spaceWork selectWork speedWork locateWork loadWork lockWork replyEnds
 work-plain Unknown s h st q buf l = ends-plain _ _ _ _ refl
 work-plain TestUnitReady s h st q buf l = ends-plain _ _ _ _ refl
 work-plain Rewind s h st q buf l = ends-plain _ _ _ _ refl
@@ -133,6 +134,7 @@ work-plain LoadUnload s h st q buf l = ends-plain _ _ _ _ refl
 work-plain Locate s h st q buf l =
     either PlainOut (ltb (h .recorded) (q .target)) _ _ (λ e. ends-plain _ _ _ _ refl) (λ e. ends-plain _ _ _ _ refl)
 work-plain ReadPosition s h st q buf l = ends-plain _ _ _ _ refl
+work-plain PreventAllow s h st q buf l = ends-plain _ _ _ _ refl
 
 -- ---- the whole packet
 

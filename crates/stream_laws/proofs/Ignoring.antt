@@ -19,7 +19,7 @@ use Rattle.image.specs.Sameness.{ReadsSame}
 use Rattle.image.proofs.StoreLaws.{mark-laid, after-either, record-header, record-kind, record-bytes}
 use Rattle.opcodes.specs.declared.Command.{Command}
 use Rattle.opcodes.specs.declared.Command.the-variants.{Unknown, TestUnitReady, Rewind, RequestSense, Read, Write, WriteFilemarks, Space, Inquiry}
-use Rattle.opcodes.specs.declared.Command.the-variants.{ModeSelect, ModeSense, LoadUnload, Locate, ReadPosition}
+use Rattle.opcodes.specs.declared.Command.the-variants.{ModeSelect, ModeSense, LoadUnload, Locate, ReadPosition, PreventAllow}
 use Rattle.transfer.proofs.LaidLaws.{block-of}
 use Rattle.transfer.proofs.SameLaws.{Same, of-alike, LaidSame, laid-same, mark-same, block-same, read-same, blocks-on-same, blocks-back-same}
 use Rattle.transfer.proofs.SameLaws.{marks-on-same, marks-back-same, marked-same}
@@ -140,6 +140,7 @@ module _ (s t : List ℕ) (alike : AlikeBelowU s t) (st : State) where
     work-same LoadUnload l = looked _ _
     work-same Locate l = looked _ _
     work-same ReadPosition l = looked _ _
+    work-same PreventAllow l = looked _ _
 
     verdict-same : {v : Verdict} → Found (askedBy (q .command) h q) (isProtected h) st (length buf) v
         → AnsweredSame (carriedOut streamDevice v s h st q buf) (carriedOut streamDevice v t h st q buf)

@@ -23,7 +23,7 @@ use Rattle.image.proofs.StoreLaws.{OffKind, recordedAfter, after-stored, after-
 use Rattle.image.proofs.StoreLaws.{record-kind, record-bytes}
 use Rattle.opcodes.specs.declared.Command.{Command}
 use Rattle.opcodes.specs.declared.Command.the-variants.{Unknown, TestUnitReady, Rewind, RequestSense, Read, Write, WriteFilemarks, Space, Inquiry}
-use Rattle.opcodes.specs.declared.Command.the-variants.{ModeSelect, ModeSense, LoadUnload, Locate, ReadPosition}
+use Rattle.opcodes.specs.declared.Command.the-variants.{ModeSelect, ModeSense, LoadUnload, Locate, ReadPosition, PreventAllow}
 use Rattle.transfer.specs.declared.Moved.{Moved}
 use Rattle.transfer.specs.Reading.{readFrom}
 use Rattle.transfer.specs.Spacing.{blocksOn, blocksBack, marksOn, marksBack}
@@ -43,11 +43,11 @@ use Rattle.packet_parts.specs.declared.requests.Request.{Request}
 use Rattle.packet_parts.specs.Answers.{Left, done, ends, endsBefore, withMarked}
 use Rattle.stream_parts.specs.Checks.{askedBy}
 use Rattle.packet_parts.specs.Replies.{senseBytes, shortList, fullList, modeHeader, firstOf, replyEnds, repliedInto}
-use Rattle.packet_parts.specs.Requests.{loadBit}
+use Rattle.packet_parts.specs.Requests.{loadBit, preventBit}
 use Rattle.packet_parts.specs.Shell.{carriedOut}
 use Rattle.packet_work.specs.Moving.{readMoves}
 use Rattle.packet_work.specs.Replies.{replyWork}
-use Rattle.packet_work.specs.Settings.{listSpeed, goodList, speedWork, loadWork}
+use Rattle.packet_work.specs.Settings.{listSpeed, goodList, speedWork, loadWork, lockWork}
 use Rattle.packet_work.proofs.SettingLaws.{good-speed}
 use Rattle.stream_parts.specs.Replies.{positionLength, streamInquiry, modeBytes, positionBytes, modeLength, hasPage, modePage}
 use Rattle.stream.specs.Packet.{streamDevice, packetStep}
@@ -240,6 +240,10 @@ module _ (s : List ℕ) (st : State) (q : Request) (buf : List ℕ) (good : keep
   unfolding loadWork
   loads load = quiet _ Good 0 (omega arith) (kept-rules .speed) (omega arith)
 
+  locks : (prevent : Bool) → Leaves s st q buf false false (done (lockWork st prevent) s buf)
+  unfolding lockWork
+  locks prevent = quiet _ Good 0 (kept-rules .place) (kept-rules .speed) (omega arith)
+
   locates : (target : ℕ) → Leaves s st q buf false false (done (locateWork h st target) s buf)
   unfolding locateWork
   locates target =
@@ -337,6 +341,7 @@ module _ (s : List ℕ) (st : State) (q : Request) (buf : List ℕ) (good : keep
   work-leaves LoadUnload l = loads (loadBit q)
   work-leaves Locate l = locates (q .target)
   work-leaves ReadPosition l = replies (positionBytes h st) positionLength (omega arith) l
+  work-leaves PreventAllow l = locks (preventBit q)
 
 -- every packet that is not refused
 module _ (s : List ℕ) (st : State) (packet buf : List ℕ) where

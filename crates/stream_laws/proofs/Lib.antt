@@ -3,9 +3,11 @@ pub mod Endings
 pub mod Ignoring
 pub mod Keeping
 pub mod Leaving
+pub mod Locking
 pub mod Marked
 pub mod PlateTable
 pub mod ReadingBack
+pub mod Records
 pub mod Refusals
 pub mod Settling
 pub mod Speeds

@@ -11,13 +11,13 @@ use Rattle.image.specs.Header.{fieldsOf}
 use Rattle.image.proofs.HeaderLaws.{good-header, sound}
 use Rattle.opcodes.specs.declared.Command.{Command}
 use Rattle.opcodes.specs.declared.Command.the-variants.{Unknown, TestUnitReady, Rewind, RequestSense, Read, Write, WriteFilemarks, Space, Inquiry}
-use Rattle.opcodes.specs.declared.Command.the-variants.{ModeSelect, ModeSense, LoadUnload, Locate, ReadPosition}
+use Rattle.opcodes.specs.declared.Command.the-variants.{ModeSelect, ModeSense, LoadUnload, Locate, ReadPosition, PreventAllow}
 use Rattle.packet_state.specs.declared.state.Outcome.{Outcome}
 use Rattle.packet_state.specs.declared.state.State.{State}
 use Rattle.packet_state.proofs.RecordLaws.{ruly-of}
 use Rattle.packet_parts.specs.declared.requests.Request.{Request}
 use Rattle.packet_parts.specs.Replies.{fullList, replyEnds}
-use Rattle.packet_work.specs.Settings.{loadWork}
+use Rattle.packet_work.specs.Settings.{loadWork, lockWork}
 use Rattle.packet_laws.specs.Words.{markedOf}
 use Rattle.packet_laws.proofs.Endings.{ends-unmarked}
 use Rattle.packet_laws.proofs.Marked.{CountsMarked, read-counts, read-within, speed-unmarked, marked-counted as any-device}
@@ -32,7 +32,7 @@ module _ (s : List ℕ) (h : Header) (st : State) (q : Request) (buf : List ℕ)
   Unmarked out = out .answer .marked ≡ 0
 
   unmarked : (c : Command) → (c ≡ Read → ⊥) → markedOf (workOf c s h st q buf) ≡ 0
-  unfolding workOf writeWork writeEnds markWork spaceWork selectWork locateWork loadWork replyEnds
+  unfolding workOf writeWork writeEnds markWork spaceWork selectWork locateWork loadWork lockWork replyEnds
   unmarked Unknown n = ends-unmarked _ _ _ _
   unmarked TestUnitReady n = ends-unmarked _ _ _ _
   unmarked Rewind n = ends-unmarked _ _ _ _
@@ -47,6 +47,7 @@ module _ (s : List ℕ) (h : Header) (st : State) (q : Request) (buf : List ℕ)
   unmarked LoadUnload n = ends-unmarked _ _ _ _
   unmarked Locate n = either Unmarked (ltb (h .recorded) (q .target)) _ _ (λ e. ends-unmarked _ _ _ _) (λ e. ends-unmarked _ _ _ _)
   unmarked ReadPosition n = ends-unmarked _ _ _ _
+  unmarked PreventAllow n = ends-unmarked _ _ _ _
 
 counts-marked : CountsMarked streamDevice
 unfolding workOf readWork readEnds

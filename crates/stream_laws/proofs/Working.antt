@@ -8,7 +8,7 @@ use lib.ListN.{length}
 use Rattle.image.specs.Header.{fieldsOf}
 use Rattle.opcodes.specs.declared.Command.{Command}
 use Rattle.opcodes.specs.declared.Command.the-variants.{Unknown, TestUnitReady, Rewind, RequestSense, Read, Write, WriteFilemarks, Space, Inquiry}
-use Rattle.opcodes.specs.declared.Command.the-variants.{ModeSelect, ModeSense, LoadUnload, Locate, ReadPosition}
+use Rattle.opcodes.specs.declared.Command.the-variants.{ModeSelect, ModeSense, LoadUnload, Locate, ReadPosition, PreventAllow}
 use Rattle.transfer.proofs.ReadLaws.{read-ended}
 use Rattle.transfer.proofs.WriteLaws.{lay-ended}
 use Rattle.packet_state.specs.declared.state.State.{State}
@@ -48,6 +48,7 @@ by-store P a b ModeSense e = absurd (false≢true e)
 by-store P a b LoadUnload e = absurd (false≢true e)
 by-store P a b Locate e = absurd (false≢true e)
 by-store P a b ReadPosition e = absurd (false≢true e)
+by-store P a b PreventAllow e = absurd (false≢true e)
 
 moved-by : (s : List ℕ) (st : State) (q : Request) (buf : List ℕ) {c : Command} → Moves c
     → blocksOf (workOf c s (fieldsOf s) st q buf) + residueOf (workOf c s (fieldsOf s) st q buf .state .sense) ≡ q .count

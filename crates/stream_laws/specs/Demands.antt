@@ -2,7 +2,7 @@
 -- Assumes nothing.
 use Prim.Native.Nat.{ℕ, _+_, _*_, _≤_, _<_}
 use mathlib.Core.Bool.{true, false}
-use mathlib.Core.List.{List, _∷_}
+use mathlib.Core.List.{List, [], _∷_}
 use mathlib.Core.Path.{_≡_}
 use lib.ListN.{replicate}
 use Rattle.numbers.specs.Member.{isIn}
@@ -17,9 +17,11 @@ use Rattle.packet_state.specs.declared.state.State.{State}
 use Rattle.packet_state.specs.Senses.{unreadableBlock}
 use Rattle.packet_state.specs.States.{freshState, changedState, speeds, keepsRecordRules, atPlace, withSense}
 use Rattle.packet_parts.specs.Answers.{Left}
-use Rattle.packet_laws.specs.Plates.{standing, sent, SpeedPlates as SpeedPlatesOf, markedImage, markedPlates, markedSpaces, allMarkedAgree}
+use Rattle.packet_laws.specs.Plates.{standing, sent, senseOf, SpeedPlates as SpeedPlatesOf, markedImage, markedPlates, markedSpaces, allMarkedAgree}
+use Rattle.packet_laws.specs.Plates.{load, from_send_P_loaded_locked_sense_, lockedAtTwo, allDoorsAgree, DoorPlates as DoorPlatesOf}
 use Rattle.packet_laws.specs.Promises.{CutPacket as CutPacketOf, RefusedKeeps as RefusedKeepsOf, NumberExactly as NumberExactlyOf}
 use Rattle.packet_laws.specs.Promises.{BeginsExactly as BeginsExactlyOf, SpeedFollows as SpeedFollowsOf, MarkedCounted as MarkedCountedOf}
+use Rattle.packet_laws.specs.Promises.{LockFollows as LockFollowsOf, LockedStays as LockedStaysOf}
 use Rattle.packet_laws.specs.Words.{numberOf, blocksOf, bytesOf, residueOf}
 use Rattle.stream_parts.specs.Requests.{requestOf}
 use Rattle.stream_parts.specs.Warning.{pastWarning}
@@ -42,7 +44,7 @@ RefusedKeeps = RefusedKeepsOf streamDevice
 abbrev pub NumberExactly : Type 0
 NumberExactly = NumberExactlyOf streamDevice
 
--- A packet begins exactly when its number is 0 and none of 01's endings before the work holds.
+-- A packet begins exactly when its number is 0 and none of the endings before the work holds, 01's and the lock's.
 abbrev pub BeginsExactly : Type 0
 BeginsExactly = BeginsExactlyOf streamDevice
 
@@ -53,6 +55,20 @@ SpeedFollows = SpeedFollowsOf streamDevice
 -- 02, A6: a READ's answer says how many of the blocks that it copied have kind 4, every other answer 0.
 abbrev pub MarkedCounted : Type 0
 MarkedCounted = MarkedCountedOf streamDevice
+
+-- 02, A8: 1Eh sets the lock as its bit says, loaded or not, no other packet turns it, and page 2Ah shows it.
+abbrev pub LockFollows : Type 0
+LockFollows = LockFollowsOf streamDevice
+
+-- 02, A8: while locked, no packet but 1Eh with bit 0 clear unlocks, and no packet at all unloads. An unload of a locked drive ends with 5/53/02, and only the
+-- sense is new; an open drive unloads; and the lock stops nothing else.
+abbrev pub LockedStays : Type 0
+LockedStays = LockedStaysOf streamDevice
+
+-- 02, A8: "a locked flag, false when fresh and kept through a cartridge change"
+pub record LockStarts : Type 0 where
+  pub fresh : freshState .locked ≡ false
+  pub changed : (st : State) → changedState st .locked ≡ st .locked
 
 -- "For every read or write that begins, blocks moved plus residue equal blocks asked."
 abbrev pub MovedPlusResidue : Type 0
@@ -229,6 +245,13 @@ SpeedPlates = SpeedPlatesOf streamDevice (image 0) freshState changedState
 -- 02, A6: READ, WRITE and SPACE over marked blocks; "information N minus blocks copied": 1 of 4.
 abbrev pub MarkedPlates : Type 0
 MarkedPlates = (allMarkedAgree streamDevice standing (markedPlates 1) ≡ true) × (allMarkedAgree streamDevice standing markedSpaces ≡ true)
+
+-- 02, A8: the lock, worked out by hand; and "53/02 stands after the fields check of 1Bh": a load with EOT is a bad field, locked or not.
+pub record DoorPlates : Type 0 where
+  pub door : DoorPlatesOf streamDevice (image 0) (standing 2) freshState changedState
+  pub field : allDoorsAgree streamDevice (image 0) (standing 2) freshState changedState
+      (from (lockedAtTwo streamDevice (image 0) (standing 2) freshState changedState) send (load 5) P 2 loaded true locked true
+      sense (senseOf 0x70 0x05 0 0x24 0) ∷ []) ≡ true
 
 -- What is asked above can be so: a READ, a WRITE and a WRITE FILEMARK that begin and move an element, a READ that meets an unreadable block, a marked block.
 pub record WorkBegins : Type 0 where

@@ -8,7 +8,7 @@ use Rattle.image.specs.declared.header.Header.{Header}
 use Rattle.image.specs.Header.{withWarning}
 use Rattle.opcodes.specs.declared.Command.{Command}
 use Rattle.opcodes.specs.declared.Command.the-variants.{Unknown, TestUnitReady, Rewind, RequestSense, Read, Write, WriteFilemarks, Space, Inquiry}
-use Rattle.opcodes.specs.declared.Command.the-variants.{ModeSelect, ModeSense, LoadUnload, Locate, ReadPosition}
+use Rattle.opcodes.specs.declared.Command.the-variants.{ModeSelect, ModeSense, LoadUnload, Locate, ReadPosition, PreventAllow}
 use Rattle.packet_state.specs.declared.state.State.{State}
 use Rattle.packet_state.specs.Senses.{withEom}
 use Rattle.packet_state.specs.States.{withSense}
@@ -37,12 +37,13 @@ asksWarning ModeSense = false
 asksWarning LoadUnload = false
 asksWarning Locate = false
 asksWarning ReadPosition = true
+asksWarning PreventAllow = false
 
 -- every other command was answered as if W were 0
 abbrev pub seenBefore : Command → Header → Header
 seenBefore c h = if asksWarning c then h else withWarning h 0
 
--- the stream device of 01 alone
+-- the stream device without A3
 abbrev pub deviceBefore : Device State
 deviceBefore = withWork streamDevice (λ s h st q buf. workOf (q .command) s (seenBefore (q .command) h) st q buf)
 
@@ -67,6 +68,7 @@ readsOrSpaces ModeSense = false
 readsOrSpaces LoadUnload = false
 readsOrSpaces Locate = false
 readsOrSpaces ReadPosition = false
+readsOrSpaces PreventAllow = false
 
 -- the key of 8/00/05, which no other sense has
 abbrev pub blankCheck : ℕ

@@ -15,7 +15,7 @@ use Rattle.image.specs.Header.{fieldsOf, keepsHeaderRules, withRecorded}
 use Rattle.image.specs.Sameness.{IsBlock, IsBlockOf, SameElement, Alike, Outside}
 use Rattle.opcodes.specs.declared.Command.{Command}
 use Rattle.opcodes.specs.declared.Command.the-variants.{Unknown, TestUnitReady, Rewind, RequestSense, Read, Write, WriteFilemarks, Space, Inquiry}
-use Rattle.opcodes.specs.declared.Command.the-variants.{ModeSelect, ModeSense, LoadUnload, Locate, ReadPosition}
+use Rattle.opcodes.specs.declared.Command.the-variants.{ModeSelect, ModeSense, LoadUnload, Locate, ReadPosition, PreventAllow}
 use Rattle.packet_state.specs.declared.state.Sense.{Sense}
 use Rattle.packet_state.specs.declared.state.State.{State}
 use Rattle.packet_state.specs.Senses.{noSense, filemarkDetected, unreadableBlock, endOfData, volumeOverflow, earlyWarning}
@@ -54,6 +54,7 @@ storesOn ModeSense = false
 storesOn LoadUnload = false
 storesOn Locate = false
 storesOn ReadPosition = false
+storesOn PreventAllow = false
 
 abbrev pub stores : List ℕ → Bool
 stores packet = storesOn (requestOf packet .command)

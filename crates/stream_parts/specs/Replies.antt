@@ -29,7 +29,7 @@ modeLength q = if hasPage q then fullList else shortList
 
 -- "12-13 64 .. others 0"
 abbrev pub modePage : Header → State → List ℕ
-modePage h st = devicePageBytes h (st .speed) 0 64
+modePage h st = devicePageBytes h st 0 64
 
 -- "0 the length after itself"
 abbrev pub modeBytes : Header → State → Request → List ℕ

@@ -21,6 +21,7 @@ use packet_parts::requests::Request;
 use packet_parts::requests::transfer_bytes;
 use packet_parts::verdicts::Asked;
 use packet_parts::verdicts::always;
+use packet_parts::verdicts::loading;
 use packet_parts::verdicts::no_command;
 use packet_parts::verdicts::on_tape;
 use packet_parts::verdicts::settings;
@@ -67,9 +68,13 @@ fn asked_by(command: Command, h: Header, q: Request) -> Asked
             false,
             least(room, mode_length(q.page)),
         ),
-        Command::LoadUnload => settings(is_set(q.length, 1) & is_set(q.length, 4), false, 0),
+        Command::LoadUnload => {
+            let load = is_set(q.length, 1);
+            loading(load & is_set(q.length, 4), !load)
+        }
         Command::Locate => on_tape(is_set(q.flags, 2), 0),
         Command::ReadPosition => on_tape(false, POSITION_LENGTH as usize),
+        Command::PreventAllow => settings(false, false, 0),
     }
 }
 

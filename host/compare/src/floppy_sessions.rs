@@ -4,11 +4,11 @@ use tapecard::bytes::opcode::*;
 use tapecard::bytes::{length, long_at, page, put_long, put_word, word_at};
 
 use crate::images::{AllowedEdit, OtherRecording, Shape, damage_image};
-use crate::packet_sessions::{self, allocation, buffer_around, cut, put_speed_list};
+use crate::packet_sessions::{self, WHERE_EMPTY, allocation, buffer_around, cut, put_speed_list};
 use crate::{Difference, FloppyBench, Random};
 
 /// Opcodes with the weight that each has among good packets.
-const WEIGHTS: [(u8, u64); 10] = [
+const WEIGHTS: [(u8, u64); 11] = [
     (TEST_UNIT_READY, 2),
     (REQUEST_SENSE, 5),
     (READ, 22),
@@ -17,7 +17,8 @@ const WEIGHTS: [(u8, u64); 10] = [
     (INQUIRY, 3),
     (MODE_SELECT, 20),
     (MODE_SENSE, 10),
-    (LOAD_UNLOAD, 4),
+    (LOAD_UNLOAD, 5),
+    (PREVENT_ALLOW, 4),
     (LOCATE, 14),
 ];
 
@@ -154,7 +155,7 @@ fn with_damaged_record(
 
 fn damage_record(record: &mut [u8; 32], random: &mut Random, place: &Place) {
     let capacity = place.capacity;
-    match random.below(12) {
+    match random.below(13) {
         0 => put_long(record, 0, place.product + 1),
         1 => put_long(record, 0, random.number() as u32),
         2 => {
@@ -172,6 +173,7 @@ fn damage_record(record: &mut [u8; 32], random: &mut Random, place: &Place) {
         8 => record[19] = random.byte(),
         9 => random.fill(&mut record[27..]),
         10 => random.fill(&mut record[18..24]),
+        11 => record[4] = random.byte(),
         _ => random.fill(record),
     }
 }
@@ -271,8 +273,8 @@ fn good_packet(random: &mut Random, place: &Place) -> [u8; 12] {
     let any = random.byte();
     packet[0] = if random.percent(6) {
         random.pick(&[any, REWIND, SPACE, READ_POSITION])
-    } else if !place.loaded && random.percent(40) {
-        LOAD_UNLOAD
+    } else if !place.loaded && random.percent(50) {
+        random.pick(&WHERE_EMPTY)
     } else {
         opcode(random)
     };
@@ -305,6 +307,7 @@ fn put_fields(packet: &mut [u8; 12], random: &mut Random, place: &Place) {
             packet[4] = allocation(random, mode_length(packet) as u8);
         }
         LOAD_UNLOAD => packet[4] = packet[4] & 0xF8 | random.pick(&[1, 1, 1, 3, 5, 7, 0, 2, 4, 6]),
+        PREVENT_ALLOW => packet[4] = packet[4] & 0xFC | random.pick(&[0, 0, 1, 1, 2, 3]),
         LOCATE => put_long(packet, 3, block_number(random, place)),
         REQUEST_SENSE => packet[4] = allocation(random, length::SENSE as u8),
         INQUIRY => packet[4] = allocation(random, length::INQUIRY as u8),

@@ -64,6 +64,35 @@ impl Marked {
     }
 }
 
+/// What 1Bh and 1Eh ask for: the low bit of byte 4 decides in both.
+#[derive(Clone, Copy, Debug, PartialEq, Eq, PartialOrd, Ord)]
+pub enum DoorAsked {
+    Unload,
+    Load,
+    Unlock,
+    Lock,
+}
+
+impl DoorAsked {
+    pub const ALL: [DoorAsked; 4] = [
+        DoorAsked::Unload,
+        DoorAsked::Load,
+        DoorAsked::Unlock,
+        DoorAsked::Lock,
+    ];
+
+    /// None for every other packet, and for one that is too short.
+    fn in_packet(packet: &[u8]) -> Option<DoorAsked> {
+        match (*packet.first()?, packet.get(4)? % 2) {
+            (opcode::LOAD_UNLOAD, 0) => Some(DoorAsked::Unload),
+            (opcode::LOAD_UNLOAD, _) => Some(DoorAsked::Load),
+            (opcode::PREVENT_ALLOW, 0) => Some(DoorAsked::Unlock),
+            (opcode::PREVENT_ALLOW, _) => Some(DoorAsked::Lock),
+            _ => None,
+        }
+    }
+}
+
 /// What packets have shown so far.
 #[derive(Default)]
 pub struct PacketSeen {
@@ -81,6 +110,8 @@ pub struct PacketSeen {
     pub opcodes: BTreeSet<u8>,
     /// READs that copied blocks, by their ending and by whether the blocks were marked.
     pub reads: BTreeMap<(Ending, Marked), u64>,
+    /// What was asked of the door, by the record before it (1 loaded, 2 locked, 3 both) and by its ending.
+    pub doors: BTreeMap<(DoorAsked, u8, Ending), u64>,
 }
 
 /// A session over one image, of a device whose record has `RECORD` bytes.
@@ -290,6 +321,10 @@ impl<const RECORD: usize> ImageBench<RECORD> {
         *self.seen.endings.entry(key).or_default() += 1;
         if let (opcode::READ, Some(marked)) = (opcode, Marked::in_answer(&answer)) {
             *self.seen.reads.entry((ending, marked)).or_default() += 1;
+        }
+        if let Some(asked) = DoorAsked::in_packet(packet) {
+            let before = self.record_before[4] % 4;
+            *self.seen.doors.entry((asked, before, ending)).or_default() += 1;
         }
     }
 }

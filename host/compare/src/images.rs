@@ -17,6 +17,20 @@ pub struct Shape {
 }
 
 impl Shape {
+    /// Nothing beside the elements: no gap, no early warning, no protection.
+    pub fn plain(size: u16, capacity: u32, recorded: u32) -> Shape {
+        Shape {
+            size,
+            capacity,
+            recorded,
+            warning: 0,
+            kinds_gap: 0,
+            blocks_gap: 0,
+            tail: 0,
+            protected: false,
+        }
+    }
+
     /// Small images mostly.
     pub fn any(random: &mut Random) -> Shape {
         let capacity = match random.below(100) {

@@ -21,13 +21,15 @@ mod pulse_bench;
 pub mod pulse_sessions;
 mod random;
 mod settings;
+mod starts;
 
 pub use floppy_bench::FloppyBench;
 pub use guarded::Guarded;
-pub use image_bench::{ImageBench, Marked, PacketSeen};
+pub use image_bench::{DoorAsked, ImageBench, Marked, PacketSeen};
 pub use images::Shape;
 pub use origin::{Difference, Origin, agree, hex};
 pub use packet_bench::PacketBench;
 pub use pulse_bench::{PulseBench, PulseCall, PulseSeen};
 pub use random::Random;
 pub use settings::{calls_wanted, say, seed_wanted};
+pub use starts::Starts;

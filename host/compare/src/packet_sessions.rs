@@ -7,7 +7,7 @@ use crate::images::{AllowedEdit, OtherRecording, Shape, damage_image};
 use crate::{Difference, PacketBench, Random};
 
 /// Opcodes with the weight that each has among good packets.
-const WEIGHTS: [(u8, u64); 13] = [
+const WEIGHTS: [(u8, u64); 14] = [
     (TEST_UNIT_READY, 2),
     (REWIND, 3),
     (REQUEST_SENSE, 6),
@@ -18,10 +18,14 @@ const WEIGHTS: [(u8, u64); 13] = [
     (INQUIRY, 4),
     (MODE_SELECT, 8),
     (MODE_SENSE, 6),
-    (LOAD_UNLOAD, 4),
+    (LOAD_UNLOAD, 5),
+    (PREVENT_ALLOW, 4),
     (LOCATE, 8),
     (READ_POSITION, 5),
 ];
+
+/// What a drive takes that is not loaded: it is loaded again mostly, and locked or unlocked.
+pub(crate) const WHERE_EMPTY: [u8; 4] = [LOAD_UNLOAD, LOAD_UNLOAD, LOAD_UNLOAD, PREVENT_ALLOW];
 
 /// Counts of three bytes are below this.
 const COUNTS_END: u32 = 0x100_0000;
@@ -243,8 +247,8 @@ fn good_packet(random: &mut Random, place: &Place) -> [u8; 12] {
     }
     packet[0] = if random.percent(4) {
         random.byte()
-    } else if !place.loaded && random.percent(40) {
-        LOAD_UNLOAD
+    } else if !place.loaded && random.percent(50) {
+        random.pick(&WHERE_EMPTY)
     } else {
         opcode(random)
     };
@@ -272,6 +276,7 @@ fn put_fields(packet: &mut [u8; 12], random: &mut Random, place: &Place) {
             packet[4] = allocation(random, length::MODE_WITH_PAGE as u8);
         }
         LOAD_UNLOAD => packet[4] = packet[4] & 0xF8 | random.pick(&[1, 1, 1, 3, 0, 2, 4, 5, 6, 7]),
+        PREVENT_ALLOW => packet[4] = packet[4] & 0xFC | random.pick(&[0, 0, 1, 1, 2, 3]),
         LOCATE => {
             packet[1] = packet[1] & 0xFD | if random.percent(4) { 2 } else { 0 };
             let past = place.recorded + 1;
@@ -402,14 +407,14 @@ pub fn valid_record(random: &mut Random, image: &[u8]) -> [u8; 16] {
         _ => random.below(u64::from(recorded) + 1) as u32,
     };
     put_long(&mut record, 0, position);
-    record[4] = u8::from(!random.percent(10));
+    record[4] = u8::from(!random.percent(10)) + 2 * u8::from(random.percent(30));
     record[5] = random.pick(&[0, 0, 0, 0, 0, 1, 2, 3]);
     put_word(&mut record, 6, random.pick(&model::packet::SPEEDS));
     record[8] %= 16;
     if random.flag() {
         record[11] %= 8;
     } else {
-        record[4] |= random.byte() & 0xFE;
+        record[4] |= random.byte() & 0xFC;
     }
     record
 }

@@ -13,16 +13,7 @@ type Outcome = Result<(), Box<Difference>>;
 
 /// An image with U = C.
 fn full(size: u16, capacity: u32) -> Shape {
-    Shape {
-        size,
-        capacity,
-        recorded: capacity,
-        warning: 0,
-        kinds_gap: 0,
-        blocks_gap: 0,
-        tail: 0,
-        protected: false,
-    }
+    Shape::plain(size, capacity, capacity)
 }
 
 /// Loaded, no attention, at this position, with these tape parameters.

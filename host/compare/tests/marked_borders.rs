@@ -20,16 +20,7 @@ const KINDS_AT: usize = 32;
 const FLAGS_AT: usize = 19;
 
 fn tape(kinds: &[u8], recorded: usize) -> Vec<u8> {
-    let shape = Shape {
-        size: 512,
-        capacity: kinds.len() as u32,
-        recorded: recorded as u32,
-        warning: 0,
-        kinds_gap: 0,
-        blocks_gap: 0,
-        tail: 0,
-        protected: false,
-    };
+    let shape = Shape::plain(512, kinds.len() as u32, recorded as u32);
     let mut image = shape.image(&mut Random::new(11));
     image[KINDS_AT..][..kinds.len()].copy_from_slice(kinds);
     image

@@ -9,7 +9,7 @@ const CALLS: u64 = 100_000;
 
 #[test]
 fn planted_packet_mistakes_are_found() {
-    for bug in Bug::PACKET {
+    for bug in Bug::PACKET_DEVICES.into_iter().chain(Bug::PACKET) {
         let seed = seed_wanted();
         let mut bench = PacketBench::new(bug, seed);
         let found = packet_sessions::run(&mut bench, seed, CALLS).is_err();
@@ -20,7 +20,7 @@ fn planted_packet_mistakes_are_found() {
 
 #[test]
 fn planted_floppy_mistakes_are_found() {
-    for bug in Bug::FLOPPY {
+    for bug in Bug::PACKET_DEVICES.into_iter().chain(Bug::FLOPPY) {
         let seed = seed_wanted();
         let mut bench = FloppyBench::new(bug, seed);
         let found = floppy_sessions::run(&mut bench, seed, CALLS).is_err();

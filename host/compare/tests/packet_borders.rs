@@ -11,19 +11,6 @@ type Outcome = Result<(), Box<Difference>>;
 
 const TOUCHED: [u8; 12] = [0x5C; 12];
 
-fn shape(size: u16, capacity: u32, recorded: u32) -> Shape {
-    Shape {
-        size,
-        capacity,
-        recorded,
-        warning: 0,
-        kinds_gap: 0,
-        blocks_gap: 0,
-        tail: 0,
-        protected: false,
-    }
-}
-
 /// Loaded, no attention, at this position.
 fn record_at(position: u32) -> [u8; 16] {
     let mut record = [0; 16];
@@ -82,7 +69,7 @@ fn header_rules(bench: &mut PacketBench, size: u16, gap: usize, tail: usize) -> 
         kinds_gap: gap,
         blocks_gap: gap,
         tail,
-        ..shape(size, 3, 2)
+        ..Shape::plain(size, 3, 2)
     };
     let good = base.image(&mut Random::new(1));
     let slack = gap as u32;
@@ -164,7 +151,7 @@ fn image_lengths(bench: &mut PacketBench, good: &[u8], needed: usize) -> Outcome
 fn every_buffer_length() {
     let mut bench = PacketBench::new(Bug::None, 0);
     for size in [512, 1024] {
-        let image = shape(size, 5, 5).image(&mut Random::new(2));
+        let image = Shape::plain(size, 5, 5).image(&mut Random::new(2));
         for opcode in [opcode::READ, opcode::WRITE] {
             for count in 0..=6 {
                 let need = count as usize * usize::from(size);
@@ -249,7 +236,7 @@ fn huge_counts(bench: &mut PacketBench, image: &[u8], size: u16) -> Outcome {
 #[test]
 fn every_opcode_and_field_byte() {
     let mut bench = PacketBench::new(Bug::None, 0);
-    let image = shape(512, 4, 3).image(&mut Random::new(3));
+    let image = Shape::plain(512, 4, 3).image(&mut Random::new(3));
     for opcode in 0..=255 {
         for byte in 0..=255 {
             for field in [1, 2, 4] {
@@ -323,7 +310,7 @@ fn end_of_data_met(bench: &PacketBench, packet: &[u8; 12]) -> Option<(u8, u8, bo
 }
 
 fn small_image(kinds: u8, recorded: u32, warning: u16) -> Vec<u8> {
-    let mut image = shape(512, 3, recorded).image(&mut Random::new(4));
+    let mut image = Shape::plain(512, 3, recorded).image(&mut Random::new(4));
     image[32] = kinds % 3;
     image[33] = kinds / 3 % 3;
     image[34] = kinds / 9;
@@ -355,7 +342,7 @@ fn moving_packets() -> Vec<[u8; 12]> {
 #[test]
 fn every_record_rule() {
     let mut bench = PacketBench::new(Bug::None, 0);
-    let image = shape(512, 4, 3).image(&mut Random::new(5));
+    let image = Shape::plain(512, 4, 3).image(&mut Random::new(5));
     for speed in 0..=u16::MAX {
         let mut record = record_at(3);
         put_word(&mut record, 6, speed);
@@ -409,7 +396,7 @@ fn refused_by_3(
 #[test]
 fn the_largest_early_warnings() {
     let mut bench = PacketBench::new(Bug::None, 0);
-    let image = shape(512, 65_535, 0).image(&mut Random::new(10));
+    let image = Shape::plain(512, 65_535, 0).image(&mut Random::new(10));
     bench.begin(&record_at(0), &image);
     for (recorded, warning, eom) in [
         (65_535, 0, false),
@@ -446,7 +433,7 @@ fn the_largest_early_warnings() {
 fn the_largest_images() {
     for size in [512, 1024] {
         let mut bench = PacketBench::new(Bug::None, 0);
-        let image = shape(size, 65_535, 65_535).image(&mut Random::new(6));
+        let image = Shape::plain(size, 65_535, 65_535).image(&mut Random::new(6));
         bench.begin(&record_at(0), &image);
         agree(to_the_end_of_a_large_image(&mut bench, usize::from(size)));
         if size == 512 {

@@ -3,21 +3,16 @@
 use std::collections::VecDeque;
 
 use compare::pulse_sessions;
-use compare::{FloppyBench, ImageBench, PacketBench, PulseBench, PulseCall, Random, Shape, agree};
+use compare::{FloppyBench, ImageBench, PacketBench, PulseBench, PulseCall};
+use compare::{Random, Shape, Starts, agree};
 use model::Bug;
 use tapecard::bytes::{long_at, opcode, page, put_count, put_long, space, word_at};
 
 /// "Image C 4, B 512, W 0, kinds 1 2 1, U 3, attention cleared".
 fn packet_bench(position: u32, warning: u16) -> PacketBench {
     let shape = Shape {
-        size: 512,
-        capacity: 4,
-        recorded: 3,
         warning,
-        kinds_gap: 0,
-        blocks_gap: 0,
-        tail: 0,
-        protected: false,
+        ..Shape::plain(512, 4, 3)
     };
     let mut image = shape.image(&mut Random::new(9));
     image[32..35].copy_from_slice(&[1, 2, 1]);
@@ -237,14 +232,8 @@ fn cut_packets() {
 /// Image C 4, B 512, W 4, kinds 1 7 1 2, U 4; the fresh record with its attention cleared, at this position.
 fn floppy_bench(position: u8) -> FloppyBench {
     let shape = Shape {
-        size: 512,
-        capacity: 4,
-        recorded: 4,
         warning: 4,
-        kinds_gap: 0,
-        blocks_gap: 0,
-        tail: 0,
-        protected: false,
+        ..Shape::plain(512, 4, 4)
     };
     let mut image = shape.image(&mut Random::new(9));
     image[21] = 0;
@@ -373,40 +362,144 @@ fn select_speed<const RECORD: usize>(bench: &mut ImageBench<RECORD>, speed: u8) 
 
 /// 02, A2: "The fresh record's speed becomes 250 instead of 0. Callers that relied on 0 set it themselves by 15h, and MODE SENSE
 /// bytes 14-15 of a fresh drive follow."
-fn starts_at_250<const RECORD: usize>(
-    mut bench: ImageBench<RECORD>,
-    fresh: fn(&mut ImageBench<RECORD>),
-    change: fn(&mut ImageBench<RECORD>),
-) {
+fn starts_at_250<const RECORD: usize>(mut bench: ImageBench<RECORD>)
+where
+    ImageBench<RECORD>: Starts,
+{
     select_speed(&mut bench, 0);
-    for start in [fresh, change] {
+    for start in [Starts::make_fresh, Starts::change_cartridge] {
         start(&mut bench);
         attend(&mut bench);
         assert_eq!(speed_told(&mut bench), [0x00, 0xFA]);
     }
     select_speed(&mut bench, 0);
     assert_eq!(speed_told(&mut bench), [0x00, 0x00]);
-    change(&mut bench);
+    bench.change_cartridge();
     attend(&mut bench);
     assert_eq!(speed_told(&mut bench), [0x00, 0x00]);
 }
 
 #[test]
 fn a_fresh_drive_starts_at_250() {
-    starts_at_250(
-        packet_bench(3, 0),
-        |bench| agree(bench.fresh()),
-        |bench| agree(bench.change()),
-    );
+    starts_at_250(packet_bench(3, 0));
 }
 
 #[test]
 fn a_fresh_floppy_device_starts_at_250() {
-    starts_at_250(
-        floppy_bench(3),
-        |bench| assert_eq!(agree(bench.fresh()), 0),
-        |bench| assert_eq!(agree(bench.change()), 0),
-    );
+    starts_at_250(floppy_bench(3));
+}
+
+/// Position, byte 4 of the record (1 loaded, 2 locked) and the sense.
+fn left<const RECORD: usize>(bench: &ImageBench<RECORD>) -> (u32, u8, [u8; 3]) {
+    (position(bench), bench.record()[4], triple(bench))
+}
+
+fn prevent<const RECORD: usize>(bench: &mut ImageBench<RECORD>, byte_4: u8) {
+    send(bench, opcode::PREVENT_ALLOW, 0, byte_4.into());
+    assert_eq!((status(bench), blocks(bench)), (0, 0));
+}
+
+fn load_unload<const RECORD: usize>(bench: &mut ImageBench<RECORD>, byte_4: u8, ended: u8) {
+    send(bench, opcode::LOAD_UNLOAD, 0, byte_4.into());
+    assert_eq!((status(bench), blocks(bench)), (ended, 0));
+}
+
+/// Byte 6 of page 2Ah.
+fn door_told<const RECORD: usize>(bench: &mut ImageBench<RECORD>) -> u8 {
+    send(bench, opcode::MODE_SENSE, 0, 0x2A_0020);
+    bench.data()[18]
+}
+
+/// 02, A8: "Unloading while locked ends with 5/53/02; the position stays." "Page 2Ah shows LOCK (01h) always and LOCKED (02h)
+/// while locked, in byte 6."
+fn locks_and_unlocks<const RECORD: usize>(mut bench: ImageBench<RECORD>) {
+    assert_eq!(door_told(&mut bench), 0x09);
+    prevent(&mut bench, 1);
+    assert_eq!(left(&bench), (3, 3, [0, 0, 0]));
+    assert_eq!(door_told(&mut bench), 0x0B);
+    for unload in [0, 2, 4, 6] {
+        load_unload(&mut bench, unload, 2);
+        assert_eq!(left(&bench), (3, 3, [5, 0x53, 2]));
+        let plate = [
+            0x70, 0, 5, 0, 0, 0, 0, 0x0C, 0, 0, 0, 0, 0x53, 2, 0, 0, 0, 0, 0, 0,
+        ];
+        assert_eq!(sense_bytes(&mut bench), plate);
+    }
+    prevent(&mut bench, 0);
+    assert_eq!(left(&bench), (3, 1, [0, 0, 0]));
+    assert_eq!(door_told(&mut bench), 0x09);
+    load_unload(&mut bench, 0, 0);
+    assert_eq!(left(&bench), (0, 0, [0, 0, 0]));
+}
+
+/// 02, A8: "a locked flag, false when fresh and kept through a cartridge change." An attention comes before 53/02, and ends 1Eh.
+fn keeps_the_lock<const RECORD: usize>(mut bench: ImageBench<RECORD>)
+where
+    ImageBench<RECORD>: Starts,
+{
+    bench.make_fresh();
+    assert_eq!(left(&bench), (0, 1, [0, 0, 0]));
+    send(&mut bench, opcode::PREVENT_ALLOW, 0, 1);
+    assert_eq!(left(&bench), (0, 1, [6, 0x29, 0]));
+    prevent(&mut bench, 1);
+    bench.change_cartridge();
+    assert_eq!(left(&bench), (0, 3, [0, 0, 0]));
+    load_unload(&mut bench, 0, 2);
+    assert_eq!(left(&bench), (0, 3, [6, 0x28, 0]));
+    load_unload(&mut bench, 0, 2);
+    assert_eq!(left(&bench), (0, 3, [5, 0x53, 2]));
+    bench.make_fresh();
+    assert_eq!(left(&bench), (0, 1, [0, 0, 0]));
+}
+
+/// 02, A8: "1Eh has no not-ready check", and the lock stops an unload where nothing is loaded; a load goes through and leaves it.
+fn locks_where_nothing_is_loaded<const RECORD: usize>(mut bench: ImageBench<RECORD>) {
+    load_unload(&mut bench, 0, 0);
+    prevent(&mut bench, 1);
+    assert_eq!(left(&bench), (0, 2, [0, 0, 0]));
+    load_unload(&mut bench, 0, 2);
+    assert_eq!(left(&bench), (0, 2, [5, 0x53, 2]));
+    send(&mut bench, opcode::TEST_UNIT_READY, 0, 0);
+    assert_eq!(left(&bench), (0, 2, [2, 0x3A, 0]));
+    load_unload(&mut bench, 1, 0);
+    assert_eq!(left(&bench), (0, 3, [0, 0, 0]));
+}
+
+#[test]
+fn an_unload_is_stopped_until_the_door_is_unlocked() {
+    locks_and_unlocks(packet_bench(3, 0));
+    locks_and_unlocks(floppy_bench(3));
+}
+
+#[test]
+fn the_lock_goes_through_a_change() {
+    keeps_the_lock(packet_bench(3, 0));
+    keeps_the_lock(floppy_bench(3));
+}
+
+#[test]
+fn a_drive_that_is_not_loaded_is_locked() {
+    locks_where_nothing_is_loaded(packet_bench(3, 0));
+    locks_where_nothing_is_loaded(floppy_bench(3));
+}
+
+/// 02, A8: "53/02 stands after the fields check of 1Bh": a load with EOT is still a bad field; the floppy device ignores EOT.
+#[test]
+fn a_load_with_eot_while_locked() {
+    let mut bench = packet_bench(3, 0);
+    prevent(&mut bench, 1);
+    load_unload(&mut bench, 5, 2);
+    assert_eq!(left(&bench), (3, 3, [5, 0x24, 0]));
+    let mut bench = floppy_bench(3);
+    send_list(&mut bench, [1, 0, 3, 0, 1]);
+    prevent(&mut bench, 1);
+    load_unload(&mut bench, 4, 2);
+    let parameters = [22, 0x6C, 1, 0x80, 0, 3, 0, 1, 0, 0, 0, 0, 0, 0, 0, 0];
+    assert_eq!(bench.record()[16..], parameters);
+    load_unload(&mut bench, 5, 0);
+    assert_eq!(left(&bench), (0, 3, [0, 0, 0]));
+    let reset = [0, 0, 1, 0, 0, 4, 0, 1, 0, 0, 0, 0, 0, 0, 0, 0];
+    assert_eq!(bench.record()[16..], reset);
 }
 
 fn pulse_bench() -> PulseBench {

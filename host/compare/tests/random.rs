@@ -3,7 +3,7 @@
 use std::collections::BTreeSet;
 use std::time::Instant;
 
-use compare::{FloppyBench, Marked, PacketBench, PacketSeen};
+use compare::{DoorAsked, FloppyBench, Marked, PacketBench, PacketSeen};
 use compare::{PulseBench, PulseCall, PulseSeen, Random};
 use compare::{calls_wanted, floppy_sessions, packet_sessions, pulse_sessions, say, seed_wanted};
 use model::Bug;
@@ -116,6 +116,7 @@ fn packets_went_everywhere(seen: &PacketSeen) {
     ended_every_way(seen, &wanted_endings());
     met_the_end_of_data_often(seen);
     read_marked_blocks_often(seen, &READ_ENDINGS);
+    used_the_door_often(seen);
 }
 
 /// How a READ of the stream device ends that has copied blocks.
@@ -131,13 +132,38 @@ const READ_ENDINGS: [Ending; 5] = [
 fn read_marked_blocks_often(seen: &PacketSeen, endings: &[Ending]) {
     for &ending in endings {
         for marked in [Marked::Not, Marked::Partly, Marked::Wholly] {
-            let times = seen.reads.get(&(ending, marked)).copied();
+            let times = seen.reads.get(&(ending, marked));
             assert!(
-                times.is_some_and(|times| times * 10_000 >= seen.calls),
+                once_in(10_000, seen, times),
                 "a READ ended with {ending:?}, its blocks {marked:?} marked, {times:?} times"
             );
         }
     }
+}
+
+/// 02, A8: 1Bh and 1Eh went to drives that were loaded or not and locked or not, each once in ten thousand calls at least; of an
+/// unload the lock decided, also where nothing was loaded, and all else was done.
+fn used_the_door_often(seen: &PacketSeen) {
+    for asked in DoorAsked::ALL {
+        for before in 0..4 {
+            let locked = before >= 2;
+            let (ending, never) = match asked {
+                DoorAsked::Unload if locked => (Ending::RemovalPrevented, Ending::Good),
+                _ => (Ending::Good, Ending::RemovalPrevented),
+            };
+            let times = seen.doors.get(&(asked, before, ending));
+            assert!(
+                once_in(10_000, seen, times),
+                "{asked:?} of a drive with byte 4 {before} ended with {ending:?} {times:?} times"
+            );
+            assert_eq!(seen.doors.get(&(asked, before, never)), None);
+        }
+    }
+}
+
+/// Whether it came about once in so many calls at least.
+fn once_in(calls: u64, seen: &PacketSeen, times: Option<&u64>) -> bool {
+    times.is_some_and(|times| times * calls >= seen.calls)
 }
 
 /// Before and past early warning alike, each once in a thousand calls: the few that damaged headers bring about would not do.
@@ -150,7 +176,7 @@ fn met_the_end_of_data_often(seen: &PacketSeen) {
         for ending in [Ending::AtEndOfData, Ending::AtEndOfDataPastWarning] {
             let times = seen.endings.get(&(opcode, variant, ending));
             assert!(
-                times.is_some_and(|times| times * 1000 >= seen.calls),
+                once_in(1000, seen, times),
                 "opcode {opcode:02X}h, variant {variant}, ended with {ending:?} {times:?} times"
             );
         }
@@ -182,6 +208,7 @@ fn triples() -> BTreeSet<[u8; 3]> {
         triple::UNKNOWN_COMMAND,
         triple::BAD_FIELD,
         triple::BAD_LIST,
+        triple::REMOVAL_PREVENTED,
         triple::MEDIUM_CHANGED,
         triple::RESET,
         triple::PROTECTED,
@@ -191,7 +218,7 @@ fn triples() -> BTreeSet<[u8; 3]> {
 }
 
 /// The endings that each command has of its own, by opcode and variant.
-const OWN_ENDINGS: [(u8, u8, &[Ending]); 29] = {
+const OWN_ENDINGS: [(u8, u8, &[Ending]); 30] = {
     use Ending::*;
     use opcode::*;
     [
@@ -221,7 +248,8 @@ const OWN_ENDINGS: [(u8, u8, &[Ending]); 29] = {
         (MODE_SELECT, 31, &[BadListLength]),
         (MODE_SENSE, 0, &[Good, Refused(4)]),
         (MODE_SENSE, page::CODE, &[Good, Refused(4)]),
-        (LOAD_UNLOAD, 0, &[Good, BadField]),
+        (LOAD_UNLOAD, 0, &[Good, BadField, RemovalPrevented]),
+        (PREVENT_ALLOW, 0, &[Good]),
         (LOCATE, 0, &[BadField, NotLoaded, Good, LocatedBeyond]),
         (READ_POSITION, 0, &[NotLoaded, Refused(4), Good]),
     ]
@@ -254,6 +282,7 @@ fn wanted_endings() -> Vec<(u8, u8, Ending)> {
         opcode::WRITE,
         opcode::WRITE_FILEMARK,
         opcode::LOAD_UNLOAD,
+        opcode::PREVENT_ALLOW,
         opcode::LOCATE,
         opcode::READ_POSITION,
     ] {
@@ -275,13 +304,14 @@ fn floppy_packets_went_everywhere(seen: &PacketSeen) {
     assert_eq!(seen.triples, triples);
     ended_every_way(seen, &wanted_floppy_endings());
     read_marked_blocks_often(seen, &FLOPPY_READ_ENDINGS);
+    used_the_door_often(seen);
 }
 
 /// How a READ of the floppy device ends that has copied blocks.
 const FLOPPY_READ_ENDINGS: [Ending; 3] = [Ending::Good, Ending::AtUnreadable, Ending::AtEndOfData];
 
 /// The endings that each command of the floppy device has of its own, by opcode and variant.
-const OWN_FLOPPY_ENDINGS: [(u8, u8, &[Ending]); 19] = {
+const OWN_FLOPPY_ENDINGS: [(u8, u8, &[Ending]); 20] = {
     use Ending::*;
     use opcode::*;
     [
@@ -302,7 +332,8 @@ const OWN_FLOPPY_ENDINGS: [(u8, u8, &[Ending]); 19] = {
         (MODE_SENSE, page::CODE, &[Good, Refused(4)]),
         (MODE_SENSE, page::TAPE_CODE, &[Good, Refused(4)]),
         (MODE_SENSE, 0x2C, &[BadField]),
-        (LOAD_UNLOAD, 0, &[Good]),
+        (LOAD_UNLOAD, 0, &[Good, RemovalPrevented]),
+        (PREVENT_ALLOW, 0, &[Good]),
         (LOCATE, 0, &[BadField, NotLoaded, Good]),
     ]
 };
@@ -327,6 +358,7 @@ fn wanted_floppy_endings() -> Vec<(u8, u8, Ending)> {
         opcode::WRITE,
         opcode::WRITE_FILEMARK,
         opcode::LOAD_UNLOAD,
+        opcode::PREVENT_ALLOW,
         opcode::LOCATE,
     ] {
         wanted.extend(EARLY.map(|ending| (opcode, 0, ending)));

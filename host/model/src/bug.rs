@@ -34,8 +34,62 @@ pub enum Bug {
     WriteShowsMarked,
     /// A READ that is refused for its buffer shows the marked blocks ahead of it.
     RefusalShowsMarked,
+    /// An unload goes through though the door is locked.
+    UnloadIgnoresLock,
+    /// An unload that the lock stops sets P 0.
+    StoppedUnloadRewinds,
+    /// An unload that the lock stops leaves the drive not loaded.
+    StoppedUnloadUnloads,
+    /// An unload that the lock stops unlocks.
+    StoppedUnloadUnlocks,
+    /// An unload that the lock stops ends with 5/53/00.
+    StopLosesQualifier,
+    /// An unload that the lock stops has a valid residue.
+    StopIsValid,
+    /// An unload that the lock stops is told before a pending attention.
+    StopBeforeAttention,
+    /// The lock stops a load too.
+    LockStopsLoad,
+    /// An unload goes through though locked where nothing is loaded.
+    UnloadPassesWhereEmpty,
+    /// An unload with retension goes through though locked.
+    RetensionPassesLock,
+    /// A load unlocks.
+    LoadUnlocks,
+    /// A fresh record is locked.
+    FreshIsLocked,
+    /// Changing the cartridge unlocks.
+    ChangeUnlocks,
+    /// Changing the cartridge locks.
+    ChangeLocks,
+    /// Changing the cartridge does nothing while locked.
+    LockStopsChange,
+    /// 1Eh needs a loaded cartridge.
+    PreventNeedsCartridge,
+    /// 1Eh passes a pending attention, as 03h and 12h do.
+    PreventPassesAttention,
+    /// 1Eh is obeyed though it ends with a pending attention.
+    PreventObeyedAtAttention,
+    /// 1Eh locks with any bit of byte 4.
+    AnyBitLocks,
+    /// 1Eh leaves the sense.
+    PreventKeepsSense,
+    /// 1Eh sets P 0.
+    PreventRewinds,
+    /// Page 2Ah shows LOCKED always.
+    LockedShownOpen,
+    /// Page 2Ah never shows LOCKED.
+    LockedNeverShown,
+    /// Page 2Ah shows LOCK only while locked.
+    LockShownOnlyLocked,
+    /// A list with page 2Ah locks or unlocks as its byte 6 says.
+    ListSetsLock,
+    /// A record's reserved bits beside the locked flag are read as locked.
+    ReservedBitsLock,
 
     // Packet drive.
+    /// A load with EOT ends with 5/53/02 while locked.
+    StopBeforeFields,
     /// A WRITE FILEMARK over a marked block leaves it.
     FilemarkKeepsMark,
     /// SPACE over blocks does not count a marked one.
@@ -126,8 +180,12 @@ pub enum Bug {
     LargeListStored,
     /// An unload resets the tape parameters.
     UnloadResetsParameters,
+    /// An unload that the lock stops resets the tape parameters.
+    StoppedUnloadResetsParameters,
     /// A load keeps the tape parameters.
     LoadKeepsParameters,
+    /// A load keeps the tape parameters while locked.
+    LockedLoadKeepsParameters,
     /// A load with the bit for EOT is a bad field.
     LoadMindsEot,
     /// Changing the cartridge keeps the tape parameters.
@@ -189,8 +247,8 @@ pub enum Bug {
 }
 
 impl Bug {
-    /// Mistakes in the packet drive.
-    pub const PACKET: [Bug; 41] = [
+    /// Mistakes in both packet devices.
+    pub const PACKET_DEVICES: [Bug; 38] = [
         Bug::FreshIsAutomatic,
         Bug::ChangeResetsSpeed,
         Bug::MarkedIsUnreadable,
@@ -203,6 +261,37 @@ impl Bug {
         Bug::WriteKeepsMark,
         Bug::WriteShowsMarked,
         Bug::RefusalShowsMarked,
+        Bug::UnloadIgnoresLock,
+        Bug::StoppedUnloadRewinds,
+        Bug::StoppedUnloadUnloads,
+        Bug::StoppedUnloadUnlocks,
+        Bug::StopLosesQualifier,
+        Bug::StopIsValid,
+        Bug::StopBeforeAttention,
+        Bug::LockStopsLoad,
+        Bug::UnloadPassesWhereEmpty,
+        Bug::RetensionPassesLock,
+        Bug::LoadUnlocks,
+        Bug::FreshIsLocked,
+        Bug::ChangeUnlocks,
+        Bug::ChangeLocks,
+        Bug::LockStopsChange,
+        Bug::PreventNeedsCartridge,
+        Bug::PreventPassesAttention,
+        Bug::PreventObeyedAtAttention,
+        Bug::AnyBitLocks,
+        Bug::PreventKeepsSense,
+        Bug::PreventRewinds,
+        Bug::LockedShownOpen,
+        Bug::LockedNeverShown,
+        Bug::LockShownOnlyLocked,
+        Bug::ListSetsLock,
+        Bug::ReservedBitsLock,
+    ];
+
+    /// Further mistakes in the packet drive.
+    pub const PACKET: [Bug; 30] = [
+        Bug::StopBeforeFields,
         Bug::FilemarkKeepsMark,
         Bug::SpaceSkipsMarked,
         Bug::SpaceStopsAtMarked,
@@ -234,20 +323,8 @@ impl Bug {
         Bug::RefusalClearsSense,
     ];
 
-    /// Mistakes in the floppy tape device.
-    pub const FLOPPY: [Bug; 36] = [
-        Bug::FreshIsAutomatic,
-        Bug::ChangeResetsSpeed,
-        Bug::MarkedIsUnreadable,
-        Bug::KindsAboveFourAreMarked,
-        Bug::ReadSkipsMarked,
-        Bug::MarkedCountsPlain,
-        Bug::MarkedCountsBefore,
-        Bug::MarkedCountsAsked,
-        Bug::MarkedCountsStop,
-        Bug::WriteKeepsMark,
-        Bug::WriteShowsMarked,
-        Bug::RefusalShowsMarked,
+    /// Further mistakes in the floppy tape device.
+    pub const FLOPPY: [Bug; 26] = [
         Bug::BlockInErrorInResidue,
         Bug::KindTwoIsFilemark,
         Bug::FloppyWriteSetsRecorded,
@@ -263,7 +340,9 @@ impl Bug {
         Bug::ListAtPositionRewinds,
         Bug::LargeListStored,
         Bug::UnloadResetsParameters,
+        Bug::StoppedUnloadResetsParameters,
         Bug::LoadKeepsParameters,
+        Bug::LockedLoadKeepsParameters,
         Bug::LoadMindsEot,
         Bug::ChangeKeepsParameters,
         Bug::TransferLimitFixed,

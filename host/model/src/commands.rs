@@ -1,9 +1,11 @@
 //! What the packet devices' commands have in common: first bytes, lengths, and the bytes that are returned.
 
+use crate::bug::Bug;
 use crate::bytes::{put_long, put_word, word_at};
+use crate::door;
 use crate::image::Header;
 use crate::record::{Attention, Sense, State};
-use crate::reply::Reply;
+use crate::reply::{Reply, tell_attention};
 
 pub const TEST_UNIT_READY: u8 = 0x00;
 pub const REWIND: u8 = 0x01;
@@ -16,6 +18,8 @@ pub const INQUIRY: u8 = 0x12;
 pub const MODE_SELECT: u8 = 0x15;
 pub const MODE_SENSE: u8 = 0x1A;
 pub const LOAD_UNLOAD: u8 = 0x1B;
+/// "PREVENT/ALLOW MEDIUM REMOVAL (1Eh, byte 4 bit 0)" (02, A8).
+pub const PREVENT_ALLOW: u8 = 0x1E;
 pub const LOCATE: u8 = 0x2B;
 pub const READ_POSITION: u8 = 0x34;
 
@@ -34,15 +38,32 @@ pub const CAPABILITIES_LENGTH: usize = 20;
 pub const CAPABILITIES: u8 = 0x2A;
 const CAPABILITIES_LENGTH_BYTE: u8 = 0x12;
 
-// "A pending attention ends any packet but 03h and 12h".
-pub fn attention_is_told(state: &State, opcode: u8) -> bool {
-    let exempt = opcode == REQUEST_SENSE || opcode == INQUIRY;
-    state.attention != Attention::None && !exempt
+// "A pending attention ends any packet but 03h and 12h", 1Eh too: what it asks for is then not done.
+pub fn ended_by_attention(bug: Bug, state: &mut State, packet: &[u8]) -> Option<Reply> {
+    if state.attention == Attention::None || passes_attention(bug, state, packet) {
+        return None;
+    }
+    if bug == Bug::PreventObeyedAtAttention && packet[0] == PREVENT_ALLOW {
+        door::prevent_or_allow(bug, state, packet);
+    }
+    Some(tell_attention(state))
 }
 
-// "Not loaded 2/3A/00, for all but 03h, 12h, 15h, 1Ah, 1Bh."
-pub fn needs_cartridge(opcode: u8) -> bool {
-    ![REQUEST_SENSE, INQUIRY, MODE_SELECT, MODE_SENSE, LOAD_UNLOAD].contains(&opcode)
+fn passes_attention(bug: Bug, state: &State, packet: &[u8]) -> bool {
+    match packet[0] {
+        REQUEST_SENSE | INQUIRY => true,
+        PREVENT_ALLOW => bug == Bug::PreventPassesAttention,
+        _ => bug == Bug::StopBeforeAttention && door::holds(bug, state, packet),
+    }
+}
+
+// "Not loaded 2/3A/00, for all but 03h, 12h, 15h, 1Ah, 1Bh."; 02, A8: "and 1Eh has no not-ready check."
+pub fn needs_cartridge(bug: Bug, opcode: u8) -> bool {
+    match opcode {
+        REQUEST_SENSE | INQUIRY | MODE_SELECT | MODE_SENSE | LOAD_UNLOAD => false,
+        PREVENT_ALLOW => bug == Bug::PreventNeedsCartridge,
+        _ => true,
+    }
 }
 
 // "Write protected 7/27/00, for 0Ah and 10h."
@@ -105,23 +126,32 @@ pub fn mode_header(header: &Header, whole_length: usize) -> [u8; MODE_HEADER_LEN
     bytes
 }
 
-// "Page 20 bytes: 2Ah 12h; byte 6 08h; byte 7 04h if B is 1024; 8-9 500; 12-13 64; 14-15 speed; 16-17 128; others 0."
-pub fn capabilities_page(header: &Header, speed: u16) -> [u8; CAPABILITIES_LENGTH] {
+// "Page 20 bytes: 2Ah 12h; byte 6 08h; byte 7 04h if B is 1024; 8-9 500; 12-13 64; 14-15 speed; 16-17 128; others 0."; 02, A8:
+// "Page 2Ah shows LOCK (01h) always and LOCKED (02h) while locked, in byte 6."
+pub fn capabilities_page(bug: Bug, header: &Header, state: &State) -> [u8; CAPABILITIES_LENGTH] {
     let mut page = [0; CAPABILITIES_LENGTH];
     page[0] = CAPABILITIES;
     page[1] = CAPABILITIES_LENGTH_BYTE;
-    page[6] = 0x08;
+    page[6] = 0x08 + door::shown(bug, state);
     page[7] = if header.block_size == 1024 { 0x04 } else { 0 };
     put_word(&mut page, 8, 500);
     put_word(&mut page, 12, 64);
-    put_word(&mut page, 14, speed);
+    put_word(&mut page, 14, state.speed);
     put_word(&mut page, 16, 128);
     page
 }
 
 /// The speed in a capabilities page.
-pub fn speed_in(page: &[u8]) -> u16 {
+fn speed_in(page: &[u8]) -> u16 {
     word_at(page, 14)
+}
+
+/// Sets the speed as a capabilities page in a list says; "other bytes ignored."
+pub fn take_capabilities(bug: Bug, state: &mut State, page: &[u8]) {
+    state.speed = speed_in(page);
+    if bug == Bug::ListSetsLock {
+        state.locked = door::listed(page);
+    }
 }
 
 // "page bytes 2Ah 12h and speed 0, 62, 125, 250 or 500, else 5/26/00; other bytes ignored."

@@ -4,13 +4,14 @@
 use crate::bug::{Bug, TWO_TO_THE_32};
 use crate::bytes::{long_at, put_word, triple_at, word_at};
 use crate::commands::*;
+use crate::door;
 use crate::image::{Header, Kind};
 use crate::reading::{MarksAhead, Reading};
 use crate::record::State;
 use crate::reply::*;
 
-/// Every opcode that the device knows: those of 004 but ERASE, as 01 leaves erase out.
-pub const OPCODES: [u8; 10] = [
+/// Every opcode that the device knows: those of 004 but ERASE, as 01 leaves erase out, and 1Eh (02, A8).
+pub const OPCODES: [u8; 11] = [
     TEST_UNIT_READY,
     REQUEST_SENSE,
     READ,
@@ -20,6 +21,7 @@ pub const OPCODES: [u8; 10] = [
     MODE_SELECT,
     MODE_SENSE,
     LOAD_UNLOAD,
+    PREVENT_ALLOW,
     LOCATE,
 ];
 
@@ -210,7 +212,7 @@ fn decoded(bug: Bug, record: &[u8; 32]) -> (State, Parameters) {
         highest_head: record[26],
         flags: flags_in(bug, record[19]),
     };
-    (State::decoded(&common), parameters)
+    (State::decoded(bug, &common), parameters)
 }
 
 fn encoded(state: &State, parameters: &Parameters) -> [u8; 32] {
@@ -238,7 +240,8 @@ struct Drive<'a> {
 }
 
 impl Drive<'_> {
-    // 01: "Packet order: 1, 2, 3, attention, opcode, fields, not ready, protection, 4, list contents, the work."
+    // 01: "Packet order: 1, 2, 3, attention, opcode, fields, not ready, protection, 4, list contents, the work."; 02, A8: "53/02
+    // stands after the fields check of 1Bh, and 1Eh has no not-ready check."
     fn answered(&mut self) -> Reply {
         if self.packet.len() != PACKET_LENGTH {
             return Reply::refused(1);
@@ -249,8 +252,8 @@ impl Drive<'_> {
         if !self.record_keeps_rules(&header) {
             return Reply::refused(3);
         }
-        if attention_is_told(&self.state, self.opcode()) {
-            return tell_attention(&mut self.state);
+        if let Some(reply) = ended_by_attention(self.bug, &mut self.state, self.packet) {
+            return reply;
         }
         if !OPCODES.contains(&self.opcode()) {
             return unknown_opcode();
@@ -258,7 +261,13 @@ impl Drive<'_> {
         if let Some(reply) = self.wrong_field() {
             return reply;
         }
-        if !self.state.loaded && needs_cartridge(self.opcode()) {
+        if let Some(reply) = door::stopped(self.bug, &mut self.state, self.packet) {
+            if self.bug == Bug::StoppedUnloadResetsParameters {
+                self.parameters = Parameters::reset_for(&header);
+            }
+            return reply;
+        }
+        if !self.state.loaded && needs_cartridge(self.bug, self.opcode()) {
             return not_loaded();
         }
         self.protection_and_after(&mut header)
@@ -334,7 +343,9 @@ impl Drive<'_> {
             }
             LOCATE => u64::from(self.block_number()) >= self.product(),
             // Bit 2 of byte 4 is reserved here (004).
-            LOAD_UNLOAD => self.bug == Bug::LoadMindsEot && byte_4 & 5 == 5,
+            LOAD_UNLOAD => {
+                self.bug == Bug::LoadMindsEot && door::loads(self.packet) && byte_4 & 4 != 0
+            }
             _ => false,
         };
         wrong.then(bad_field)
@@ -392,6 +403,7 @@ impl Drive<'_> {
             MODE_SELECT => self.mode_select(),
             MODE_SENSE => self.mode_sense(header),
             LOAD_UNLOAD => self.load_unload(header),
+            PREVENT_ALLOW => door::prevent_or_allow(self.bug, &mut self.state, self.packet),
             LOCATE => {
                 self.state.position = self.block_number();
                 Reply::good()
@@ -501,7 +513,10 @@ impl Drive<'_> {
                     self.state.position = 0;
                 }
             }
-            32 => self.state.speed = speed_in(self.listed_page()),
+            32 => {
+                let page = &self.data[MODE_HEADER_LENGTH..];
+                take_capabilities(self.bug, &mut self.state, page);
+            }
             _ => (),
         }
         Reply::good().with_bytes(length)
@@ -511,7 +526,7 @@ impl Drive<'_> {
         let mut whole = mode_header(header, self.mode_length()).to_vec();
         match page_code(self.packet) {
             CAPABILITIES => {
-                let mut page = capabilities_page(header, self.state.speed);
+                let mut page = capabilities_page(self.bug, header, &self.state);
                 page[4] = FLOPPY_TAPE_MODE;
                 // 004: "This value should be set to BSEG".
                 if self.bug != Bug::TransferLimitFixed {
@@ -525,20 +540,18 @@ impl Drive<'_> {
         fill(self.data, self.packet, &whole)
     }
 
-    // 01: "P = 0; loaded as the bit says." "After a load .. BSEG is 1, SEGTRK C, TRKS 1 and the rest 0" (02, A1).
+    // "After a load .. BSEG is 1, SEGTRK C, TRKS 1 and the rest 0" (02, A1).
     fn load_unload(&mut self, header: &Header) -> Reply {
-        let load = self.packet[4] & 1 != 0;
-        self.state.position = 0;
-        self.state.loaded = load;
         let resets = match self.bug {
             Bug::UnloadResetsParameters => true,
             Bug::LoadKeepsParameters => false,
-            _ => load,
+            Bug::LockedLoadKeepsParameters if self.state.locked => false,
+            _ => door::loads(self.packet),
         };
         if resets {
             self.parameters = Parameters::reset_for(header);
         }
-        Reply::good()
+        door::load_or_unload(self.bug, &mut self.state, self.packet)
     }
 }
 

@@ -8,6 +8,7 @@
 mod bug;
 mod bytes;
 mod commands;
+mod door;
 pub mod floppy;
 mod image;
 pub mod packet;

@@ -3,6 +3,7 @@
 use crate::bug::{Bug, TWO_TO_THE_32};
 use crate::bytes::{long_at, put_long, triple_at};
 use crate::commands::*;
+use crate::door;
 use crate::image::{Header, Kind};
 use crate::reading::{MarksAhead, Reading};
 use crate::record::{Attention, Sense, State};
@@ -12,7 +13,7 @@ pub use crate::commands::SPEEDS;
 pub use crate::reply::Ending;
 
 /// Every opcode that the drive knows.
-pub const OPCODES: [u8; 13] = [
+pub const OPCODES: [u8; 14] = [
     TEST_UNIT_READY,
     REWIND,
     REQUEST_SENSE,
@@ -24,6 +25,7 @@ pub const OPCODES: [u8; 13] = [
     MODE_SELECT,
     MODE_SENSE,
     LOAD_UNLOAD,
+    PREVENT_ALLOW,
     LOCATE,
     READ_POSITION,
 ];
@@ -52,7 +54,7 @@ pub fn change(record: &mut [u8; 16]) {
 }
 
 pub fn change_with(bug: Bug, record: &mut [u8; 16]) {
-    let mut state = State::decoded(record);
+    let mut state = State::decoded(bug, record);
     let keeps_reset = bug == Bug::ChangeKeepsReset && state.attention == Attention::Reset;
     // "Changing the cartridge (never refused)".
     state.change_cartridge(bug);
@@ -77,7 +79,7 @@ pub fn packet_with(
 ) -> ([u8; 16], Ending) {
     let mut drive = Drive {
         bug,
-        state: State::decoded(record),
+        state: State::decoded(bug, record),
         image,
         packet,
         data,
@@ -109,7 +111,8 @@ struct Drive<'a> {
 }
 
 impl Drive<'_> {
-    // "Packet order: 1, 2, 3, attention, opcode, fields, not ready, protection, 4, list contents, the work."
+    // "Packet order: 1, 2, 3, attention, opcode, fields, not ready, protection, 4, list contents, the work."; 02, A8: "53/02
+    // stands after the fields check of 1Bh, and 1Eh has no not-ready check."
     fn answered(&mut self) -> Reply {
         if self.packet.len() != PACKET_LENGTH {
             return Reply::refused(1);
@@ -120,9 +123,11 @@ impl Drive<'_> {
         if !self.record_keeps_rules(&header) {
             return Reply::refused(3);
         }
-        let unknown_first = self.bug == Bug::AttentionAfterOpcode && !self.opcode_is_known();
-        if attention_is_told(&self.state, self.opcode()) && !unknown_first {
-            return tell_attention(&mut self.state);
+        if self.bug == Bug::AttentionAfterOpcode && !self.opcode_is_known() {
+            return unknown_opcode();
+        }
+        if let Some(reply) = ended_by_attention(self.bug, &mut self.state, self.packet) {
+            return reply;
         }
         if !self.opcode_is_known() {
             return unknown_opcode();
@@ -130,7 +135,10 @@ impl Drive<'_> {
         if let Some(reply) = self.wrong_field() {
             return reply;
         }
-        if !self.state.loaded && needs_cartridge(self.opcode()) {
+        if let Some(reply) = door::stopped(self.bug, &mut self.state, self.packet) {
+            return reply;
+        }
+        if !self.state.loaded && needs_cartridge(self.bug, self.opcode()) {
             return not_loaded();
         }
         self.protection_and_after(&mut header)
@@ -196,11 +204,15 @@ impl Drive<'_> {
                 return Some(bad_list_length());
             }
             // "byte 4 load 1, retension 2, EOT 4. Load with EOT 24/00."
-            LOAD_UNLOAD => byte_4 & 1 != 0 && byte_4 & 4 != 0,
+            LOAD_UNLOAD => door::loads(self.packet) && byte_4 & 4 != 0,
             // "byte 1 bit 1 set 24/00".
             LOCATE => byte_1 & 2 != 0,
             _ => false,
         };
+        let locked_load = self.opcode() == LOAD_UNLOAD && self.state.locked;
+        if self.bug == Bug::StopBeforeFields && wrong && locked_load {
+            return Some(removal_prevented());
+        }
         wrong.then(bad_field)
     }
 
@@ -268,7 +280,8 @@ impl Drive<'_> {
             INQUIRY => self.fill(&inquiry_data(DEVICE_TYPE)),
             MODE_SELECT => self.mode_select(),
             MODE_SENSE => self.mode_sense(header),
-            LOAD_UNLOAD => self.load_unload(),
+            LOAD_UNLOAD => door::load_or_unload(self.bug, &mut self.state, self.packet),
+            PREVENT_ALLOW => door::prevent_or_allow(self.bug, &mut self.state, self.packet),
             LOCATE => self.locate(header),
             READ_POSITION => self.read_position(header),
             _ => unreachable!("an unknown opcode ended before"),
@@ -482,7 +495,8 @@ impl Drive<'_> {
     fn mode_select(&mut self) -> Reply {
         let length = usize::from(self.packet[4]);
         if length == MODE_WHOLE_LENGTH {
-            self.state.speed = speed_in(&self.data[MODE_HEADER_LENGTH..]);
+            let page = &self.data[MODE_HEADER_LENGTH..];
+            take_capabilities(self.bug, &mut self.state, page);
         }
         Reply::good().with_bytes(length as u32)
     }
@@ -491,16 +505,9 @@ impl Drive<'_> {
         let length = self.mode_length();
         let mut whole = [0; MODE_WHOLE_LENGTH];
         whole[..MODE_HEADER_LENGTH].copy_from_slice(&mode_header(header, length));
-        let page = capabilities_page(header, self.state.speed);
+        let page = capabilities_page(self.bug, header, &self.state);
         whole[MODE_HEADER_LENGTH..].copy_from_slice(&page);
         self.fill(&whole[..length])
-    }
-
-    // "P = 0; loaded as the bit says."
-    fn load_unload(&mut self) -> Reply {
-        self.state.position = 0;
-        self.state.loaded = self.packet[4] & 1 != 0;
-        Reply::good()
     }
 
     // "target in bytes 3-6. Above U: P = U, 8/00/05, not valid. Else P = target." A3 of 02 names READ and SPACE alone: no EOM here.

@@ -6,6 +6,10 @@ use crate::bytes::{long_at, put_long, put_word, word_at};
 /// "The fresh record's speed becomes 250 instead of 0." (02, A2)
 const FRESH_SPEED: u16 = 250;
 
+/// Bits of the record's byte 4; its others are reserved.
+const LOADED: u8 = 1;
+const LOCKED: u8 = 2;
+
 /// "attention (none, medium changed, reset)".
 #[derive(Clone, Copy, PartialEq, Eq)]
 pub enum Attention {
@@ -61,32 +65,39 @@ impl Sense {
     }
 }
 
-/// "Record: position P; loaded; attention ..; speed; sense ..".
+/// "Record: position P; loaded; attention ..; speed; sense .."; 02, A8: "The packet record gains a locked flag".
 pub struct State {
     pub position: u32,
     pub loaded: bool,
+    pub locked: bool,
     pub attention: Attention,
     pub speed: u16,
     pub sense: Sense,
 }
 
 impl State {
-    // "Fresh: P 0, loaded, attention reset, .. sense zero", the speed as A2 has it.
+    // "Fresh: P 0, loaded, attention reset, .. sense zero", the speed as A2 has it; 02, A8: "a locked flag, false when fresh".
     pub fn fresh(bug: Bug) -> State {
         let automatic = bug == Bug::FreshIsAutomatic;
         State {
             position: 0,
             loaded: true,
+            locked: bug == Bug::FreshIsLocked,
             attention: Attention::Reset,
             speed: if automatic { 0 } else { FRESH_SPEED },
             sense: Sense::ZERO,
         }
     }
 
-    // "Changing the cartridge .. sets only P 0, loaded, attention medium changed, sense zero."
+    // "Changing the cartridge .. sets only P 0, loaded, attention medium changed, sense zero."; 02, A8: the locked flag is "kept
+    // through a cartridge change".
     pub fn change_cartridge(&mut self, bug: Bug) {
-        if bug == Bug::ChangeResetsSpeed {
-            self.speed = FRESH_SPEED;
+        match bug {
+            Bug::ChangeResetsSpeed => self.speed = FRESH_SPEED,
+            Bug::ChangeUnlocks => self.locked = false,
+            Bug::ChangeLocks => self.locked = true,
+            Bug::LockStopsChange if self.locked => return,
+            _ => (),
         }
         self.position = 0;
         self.loaded = true;
@@ -94,10 +105,16 @@ impl State {
         self.sense = Sense::ZERO;
     }
 
-    pub fn decoded(record: &[u8; 16]) -> State {
+    pub fn decoded(bug: Bug, record: &[u8; 16]) -> State {
+        let locked_bits = if bug == Bug::ReservedBitsLock {
+            0xFE
+        } else {
+            LOCKED
+        };
         State {
             position: long_at(record, 0),
-            loaded: record[4] & 1 != 0,
+            loaded: record[4] & LOADED != 0,
+            locked: record[4] & locked_bits != 0,
             attention: match record[5] {
                 1 => Attention::MediumChanged,
                 2 => Attention::Reset,
@@ -119,7 +136,7 @@ impl State {
     pub fn encoded(&self) -> [u8; 16] {
         let mut record = [0; 16];
         put_long(&mut record, 0, self.position);
-        record[4] = u8::from(self.loaded);
+        record[4] = LOADED * u8::from(self.loaded) + LOCKED * u8::from(self.locked);
         record[5] = match self.attention {
             Attention::None => 0,
             Attention::MediumChanged => 1,

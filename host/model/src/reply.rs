@@ -15,6 +15,7 @@ pub enum Ending {
     UnknownOpcode,
     BadField,
     BadListLength,
+    RemovalPrevented,
     NotLoaded,
     Protected,
     BadList,
@@ -120,6 +121,11 @@ pub fn bad_field() -> Reply {
 // "list length (byte 4, a field) .., else 5/1A/00."
 pub fn bad_list_length() -> Reply {
     Reply::ended(Ending::BadListLength, Sense::of(5, 0x1A, 0))
+}
+
+// 02, A8: "Unloading while locked ends with 5/53/02".
+pub fn removal_prevented() -> Reply {
+    Reply::ended(Ending::RemovalPrevented, Sense::of(5, 0x53, 2))
 }
 
 // "Not loaded 2/3A/00".

@@ -15,11 +15,13 @@ pub mod opcode {
     pub const MODE_SELECT: u8 = 0x15;
     pub const MODE_SENSE: u8 = 0x1A;
     pub const LOAD_UNLOAD: u8 = 0x1B;
+    /// PREVENT/ALLOW MEDIUM REMOVAL (02, A8): bit 0 of byte 4 locks, its absence unlocks.
+    pub const PREVENT_ALLOW: u8 = 0x1E;
     pub const LOCATE: u8 = 0x2B;
     pub const READ_POSITION: u8 = 0x34;
 
     /// All of them, in their order: those of the stream device.
-    pub const ALL: [u8; 13] = [
+    pub const ALL: [u8; 14] = [
         TEST_UNIT_READY,
         REWIND,
         REQUEST_SENSE,
@@ -31,12 +33,13 @@ pub mod opcode {
         MODE_SELECT,
         MODE_SENSE,
         LOAD_UNLOAD,
+        PREVENT_ALLOW,
         LOCATE,
         READ_POSITION,
     ];
 
     /// Those of the floppy device.
-    pub const FLOPPY: [u8; 10] = [
+    pub const FLOPPY: [u8; 11] = [
         TEST_UNIT_READY,
         REQUEST_SENSE,
         READ,
@@ -46,6 +49,7 @@ pub mod opcode {
         MODE_SELECT,
         MODE_SENSE,
         LOAD_UNLOAD,
+        PREVENT_ALLOW,
         LOCATE,
     ];
 }
@@ -69,10 +73,15 @@ pub mod length {
     pub const POSITION: usize = 20;
 }
 
-/// The mode pages of the drive: their codes and length bytes, and where in the first the block size shows.
+/// The mode pages of the drive: their codes and length bytes, and where in the first the door and the block size show.
 pub mod page {
     pub const CODE: u8 = 0x2A;
     pub const LENGTH: u8 = 0x12;
+    pub const DOOR_AT: usize = 6;
+    /// The byte there while the door is open: it can be locked, and the cartridge can be ejected.
+    pub const DOOR_OPEN: u8 = 0x09;
+    /// The byte there while it is locked (02, A8).
+    pub const DOOR_LOCKED: u8 = 0x0B;
     pub const BLOCK_SIZE_AT: usize = 7;
     /// The byte there where a block has 1,024 bytes.
     pub const BLOCKS_OF_1024: u8 = 0x04;
@@ -95,6 +104,8 @@ pub mod triple {
     pub const UNKNOWN_COMMAND: Triple = [0x5, 0x20, 0x00];
     pub const BAD_FIELD: Triple = [0x5, 0x24, 0x00];
     pub const BAD_LIST: Triple = [0x5, 0x26, 0x00];
+    /// An unload while the door is locked (02, A8).
+    pub const REMOVAL_PREVENTED: Triple = [0x5, 0x53, 0x02];
     pub const MEDIUM_CHANGED: Triple = [0x6, 0x28, 0x00];
     pub const RESET: Triple = [0x6, 0x29, 0x00];
     pub const PROTECTED: Triple = [0x7, 0x27, 0x00];

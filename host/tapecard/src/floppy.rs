@@ -33,8 +33,8 @@ pub struct Tape {
 }
 
 impl Record {
-    /// The record of a drive just switched on with this image in it: position 0, loaded, attention reset, speed 250, the tape as
-    /// long as the image.
+    /// The record of a drive just switched on with this image in it: position 0, loaded, not locked, attention reset, speed 250,
+    /// the tape as long as the image.
     pub fn fresh(image: &[u8]) -> Result<Record, Refusal> {
         let (mut bytes, mut answer) = ([0; 32], [0; 16]);
         ffi::floppy_fresh(&mut bytes, image, &mut answer);
@@ -42,7 +42,7 @@ impl Record {
         Ok(Record(bytes))
     }
 
-    /// The cartridge of this image was put in; the speed stays. Refused, nothing changes.
+    /// The cartridge of this image was put in; the speed and the lock stay. Refused, nothing changes.
     pub fn change(&mut self, image: &[u8]) -> Result<(), Refusal> {
         let mut answer = [0; 16];
         ffi::floppy_change(&mut self.0, image, &mut answer);
@@ -56,6 +56,11 @@ impl Record {
 
     pub fn loaded(&self) -> bool {
         self.as_stream().loaded()
+    }
+
+    /// The door is locked: an unload ends with 5/53/02 (02, A8).
+    pub fn locked(&self) -> bool {
+        self.as_stream().locked()
     }
 
     pub fn attention(&self) -> Attention {

@@ -52,14 +52,14 @@ pub struct Answer {
 }
 
 impl Record {
-    /// The record of a drive just switched on: position 0, loaded, attention reset, speed 250.
+    /// The record of a drive just switched on: position 0, loaded, not locked, attention reset, speed 250.
     pub fn fresh() -> Record {
         let mut bytes = [0; 16];
         ffi::fresh(&mut bytes);
         Record(bytes)
     }
 
-    /// Another cartridge was put in; the speed stays.
+    /// Another cartridge was put in; the speed and the lock stay.
     pub fn change(&mut self) {
         ffi::change(&mut self.0);
     }
@@ -71,6 +71,11 @@ impl Record {
 
     pub fn loaded(&self) -> bool {
         self.0[4] & 1 != 0
+    }
+
+    /// The door is locked: an unload ends with 5/53/02 (02, A8).
+    pub fn locked(&self) -> bool {
+        self.0[4] & 2 != 0
     }
 
     pub fn attention(&self) -> Attention {

@@ -48,6 +48,7 @@ pub fn triple_in_words(key: u8, asc: u8, ascq: u8) -> Option<&'static str> {
         triple::UNKNOWN_COMMAND => "unknown command",
         triple::BAD_FIELD => "invalid field in packet",
         triple::BAD_LIST => "invalid field in parameter list",
+        triple::REMOVAL_PREVENTED => "medium removal prevented",
         triple::MEDIUM_CHANGED => "cartridge changed",
         triple::RESET => "power on or reset",
         triple::PROTECTED => "write protected",
@@ -88,6 +89,7 @@ pub fn command(opcode: u8) -> Option<&'static str> {
         opcode::MODE_SELECT => "MODE SELECT",
         opcode::MODE_SENSE => "MODE SENSE",
         opcode::LOAD_UNLOAD => "LOAD/UNLOAD",
+        opcode::PREVENT_ALLOW => "PREVENT/ALLOW MEDIUM REMOVAL",
         opcode::LOCATE => "LOCATE",
         opcode::READ_POSITION => "READ POSITION",
         _ => return None,
@@ -139,6 +141,21 @@ mod tests {
     }
 
     #[test]
+    fn an_unload_that_the_lock_stops() {
+        let prevented = Sense {
+            key: 5,
+            asc: 0x53,
+            ascq: 2,
+            ..Sense::default()
+        };
+        assert_eq!(
+            sense(&prevented),
+            "ILLEGAL REQUEST: medium removal prevented (5/53/02)"
+        );
+        assert_eq!(triple_in_words(5, 0x53, 0), None);
+    }
+
+    #[test]
     fn a_triple_that_the_drive_never_gives() {
         let odd = Sense {
             key: 0xE,
@@ -154,6 +171,7 @@ mod tests {
         assert_eq!(status(0), "GOOD");
         assert_eq!(status(2), "CHECK CONDITION");
         assert_eq!(command(opcode::READ), Some("READ"));
+        assert_eq!(command(0x1E), Some("PREVENT/ALLOW MEDIUM REMOVAL"));
         assert!(opcode::ALL.iter().all(|opcode| command(*opcode).is_some()));
         assert_eq!(command(0x19), None);
         assert_eq!(pulse_error(26), "power on reset occurred");

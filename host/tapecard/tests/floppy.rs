@@ -50,6 +50,7 @@ fn refused_with<T>(number: u8) -> Result<T, Refusal> {
 fn a_fresh_record_has_a_tape_as_long_as_the_image() {
     let record = Record::fresh(&image()).expect("a whole image");
     assert_eq!((record.position(), record.loaded()), (0, true));
+    assert!(!record.locked());
     assert_eq!(record.attention(), Attention::Reset);
     assert_eq!((record.speed(), record.sense()), (250, Sense::default()));
     let tape = Tape {
@@ -79,9 +80,11 @@ fn an_image_that_is_not_full_is_refused() {
 fn a_changed_cartridge_sets_the_tape_back() {
     let mut record = ready(&mut image());
     record.0[7] = 125;
+    record.0[4] = 2;
     record.0[16] = 44;
     record.0[18] = 2;
     assert_eq!(record.change(&image()), Ok(()));
+    assert_eq!((record.loaded(), record.locked()), (true, true));
     assert_eq!(record.attention(), Attention::MediumChanged);
     assert_eq!(record.speed(), 125);
     let fresh = Record::fresh(&image()).expect("a whole image");
@@ -149,6 +152,31 @@ fn marked_blocks_are_read_counted_and_written_over() {
         assert_eq!(send(&with_byte_4(opcode::READ, 4)), fewer);
         assert_eq!(image[32..34], [kind::DATA, kind::MARKED]);
     }
+}
+
+/// 02, A8: "Unloading while locked ends with 5/53/02; the position stays.", and the tape parameters too, which a load sets back.
+#[test]
+fn a_locked_door_keeps_the_cartridge_in() {
+    let mut image = image();
+    let mut record = ready(&mut image);
+    record.0[16] = 44;
+    let mut send = |record: &mut Record, opcode, byte_4| {
+        packet(record, &mut image, &with_byte_4(opcode, byte_4), &mut []).expect("a whole packet")
+    };
+    record.0[3] = 3;
+    assert!(send(&mut record, opcode::PREVENT_ALLOW, 1).is_good());
+    let locked = record;
+    assert!(locked.locked());
+    assert!(!send(&mut record, opcode::LOAD_UNLOAD, 0).is_good());
+    assert_eq!(record.sense().triple(), triple::REMOVAL_PREVENTED);
+    assert!(send(&mut record, opcode::TEST_UNIT_READY, 0).is_good());
+    assert_eq!(record, locked, "only the sense was new");
+    assert!(send(&mut record, opcode::LOAD_UNLOAD, 1).is_good());
+    assert_eq!((record.position(), record.tape().density), (0, 0));
+    assert!(record.locked());
+    assert!(send(&mut record, opcode::PREVENT_ALLOW, 0).is_good());
+    assert!(send(&mut record, opcode::LOAD_UNLOAD, 0).is_good());
+    assert_eq!((record.loaded(), record.locked()), (false, false));
 }
 
 /// What is set is what the record has, what MODE SENSE tells, and where transfers and LOCATE end.

@@ -1,6 +1,6 @@
 //! The packet drive through its typed interface.
 
-use tapecard::bytes::{kind, opcode, page, space};
+use tapecard::bytes::{kind, length, opcode, page, space, triple};
 use tapecard::packet::{Answer, Attention, CHECK_CONDITION, GOOD, Record, Sense, packet};
 use tapecard::{Device, Refusal, sense_words};
 
@@ -46,7 +46,7 @@ fn read_2() -> [u8; 12] {
 fn a_fresh_record() {
     let record = Record::fresh();
     assert_eq!(record.position(), 0);
-    assert!(record.loaded());
+    assert_eq!((record.loaded(), record.locked()), (true, false));
     assert_eq!(record.attention(), Attention::Reset);
     assert_eq!(record.speed(), 250);
     assert_eq!(record.sense(), Sense::default());
@@ -56,9 +56,11 @@ fn a_fresh_record() {
 fn a_changed_cartridge() {
     let mut record = Record::fresh();
     record.0[7] = 125;
+    record.0[4] = 2;
     record.change();
     assert_eq!(record.attention(), Attention::MediumChanged);
     assert_eq!(record.speed(), 125);
+    assert_eq!((record.loaded(), record.locked()), (true, true));
 }
 
 #[test]
@@ -151,6 +153,37 @@ fn marked_blocks_are_read_counted_and_written_over() {
     };
     assert_eq!(send(&read_4), fewer);
     assert_eq!(image[32..35], [kind::MARKED, kind::DATA, kind::DATA]);
+}
+
+/// 02, A8: "Unloading while locked ends with 5/53/02; the position stays." "Page 2Ah shows LOCK (01h) always and LOCKED (02h)
+/// while locked, in byte 6."
+#[test]
+fn a_locked_door_keeps_the_cartridge_in() {
+    let mut image = image();
+    let mut record = told_of_the_reset(&mut image);
+    let mut page = [0; length::MODE_WITH_PAGE];
+    let mut send = |record: &mut Record, opcode, byte_4| {
+        let mut packet_bytes = counted(opcode, 0, byte_4);
+        packet_bytes[2] = page::CODE; // looked at by MODE SENSE alone
+        let answer = packet(record, &mut image, &packet_bytes, &mut page);
+        let door = page[length::MODE_HEADER + page::DOOR_AT];
+        (answer.expect("a whole packet").is_good(), door)
+    };
+    let told = |record: &Record| (record.position(), record.loaded(), record.locked());
+    record.0[3] = 2;
+    for (byte_4, locked, door) in [(1, true, page::DOOR_LOCKED), (0, false, page::DOOR_OPEN)] {
+        assert!(send(&mut record, opcode::PREVENT_ALLOW, byte_4).0);
+        assert_eq!(told(&record), (2, true, locked));
+        let asked = send(&mut record, opcode::MODE_SENSE, 32);
+        assert_eq!(asked, (true, door));
+        let unloaded = send(&mut record, opcode::LOAD_UNLOAD, 0).0;
+        assert_eq!(unloaded, !locked);
+        if locked {
+            assert_eq!(record.sense().triple(), triple::REMOVAL_PREVENTED);
+            assert_eq!(told(&record), (2, true, true));
+        }
+    }
+    assert_eq!(told(&record), (0, false, false));
 }
 
 #[test]

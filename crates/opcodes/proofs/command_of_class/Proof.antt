@@ -59,7 +59,11 @@ returns-13 c = simp (c .match .keys13)
 
 returns-14 : tie.Need-returns-14
 unfolding commandOfClass
-returns-14 c =
+returns-14 c = simp (c .match .keys14)
+
+returns-15 : tie.Need-returns-15
+unfolding commandOfClass
+returns-15 c =
     let r = c .match .rest in
     let s = r .0 .0 .0 .0 in
     let t = s .0 .0 .0 .0 in
@@ -78,6 +82,7 @@ returns-14 c =
       ne-eqb _ _ (t .0 .0 .1),
       ne-eqb _ _ (t .0 .0 .0 .1),
       ne-eqb _ _ (u .1),
+      ne-eqb _ _ (u .0 .1),
     )
 
 pub command-of-class-spec : {M : Type 1} → statement M
@@ -97,4 +102,5 @@ command-of-class-spec =
     returns-11
     returns-12
     returns-13
-    returns-14)
+    returns-14
+    returns-15)

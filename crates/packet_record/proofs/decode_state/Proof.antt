@@ -5,17 +5,20 @@ use borrow.Author.Needs.{needs}
 use Rattle.packet_record.proofs.decode_state.Statement.{statement}
 use Rattle.packet_record.proofs.decode_state.Tie as tie
 
+shared-slice-read-door : tie.Need-shared-slice-read-door
+shared-slice-read-door c = search needs
+
 shared-slice-read-flags : tie.Need-shared-slice-read-flags
 shared-slice-read-flags c = search needs
-
-shared-slice-read-is-set : tie.Need-shared-slice-read-is-set
-shared-slice-read-is-set c = search needs
 
 shared-slice-read-attention-of : tie.Need-shared-slice-read-attention-of
 shared-slice-read-attention-of c = search needs
 
 shared-slice-read-t10 : tie.Need-shared-slice-read-t10
 shared-slice-read-t10 c = search needs
+
+shared-slice-read-t12 : tie.Need-shared-slice-read-t12
+shared-slice-read-t12 c = search needs
 
 is-set-requires : tie.Need-is-set-requires
 is-set-requires c κs = search needs
@@ -32,11 +35,11 @@ count4-requires c κs = search needs
 count4-requires-2 : tie.Need-count4-requires-2
 count4-requires-2 c κs = search needs
 
-shared-slice-read-is-set-2 : tie.Need-shared-slice-read-is-set-2
-shared-slice-read-is-set-2 c = search needs
-
 is-set-requires-4 : tie.Need-is-set-requires-4
 is-set-requires-4 c κs = search needs
+
+is-set-requires-5 : tie.Need-is-set-requires-5
+is-set-requires-5 c κs = search needs
 
 shared-slice-read-attention-of-2 : tie.Need-shared-slice-read-attention-of-2
 shared-slice-read-attention-of-2 c = search needs
@@ -52,17 +55,18 @@ pub decode-state-spec : {M : Type 1} → statement M
 decode-state-spec =
     tie.close
     (tie.spec
+    shared-slice-read-door
     shared-slice-read-flags
-    shared-slice-read-is-set
     shared-slice-read-attention-of
     shared-slice-read-t10
+    shared-slice-read-t12
     is-set-requires
     is-set-requires-2
     is-set-requires-3
     count4-requires
     count4-requires-2
-    shared-slice-read-is-set-2
     is-set-requires-4
+    is-set-requires-5
     shared-slice-read-attention-of-2
     (λ c κs. tt)
     count2-requires

@@ -13,11 +13,20 @@ weight-of-requires c κs = search needs
 weight-of-requires-2 : tie.Need-weight-of-requires-2
 weight-of-requires-2 c κs = search needs
 
-add-flags : tie.Need-add-flags
-add-flags c = search needs
+add-door : tie.Need-add-door
+add-door c = search needs
 
 weight-of-requires-3 : tie.Need-weight-of-requires-3
 weight-of-requires-3 c κs = search needs
+
+weight-of-requires-4 : tie.Need-weight-of-requires-4
+weight-of-requires-4 c κs = search needs
+
+add-flags : tie.Need-add-flags
+add-flags c = search needs
+
+weight-of-requires-5 : tie.Need-weight-of-requires-5
+weight-of-requires-5 c κs = search needs
 
 add-flags-2 : tie.Need-add-flags-2
 add-flags-2 c = search needs
@@ -27,9 +36,6 @@ slice-aggregate-put-count4 c = search needs
 
 put-count4-requires : tie.Need-put-count4-requires
 put-count4-requires c κs = search needs
-
-weight-of-requires-4 : tie.Need-weight-of-requires-4
-weight-of-requires-4 c κs = search needs
 
 array-write-bytes : tie.Need-array-write-bytes
 array-write-bytes c = search needs
@@ -69,18 +75,19 @@ unfolding encodeState
 returns c =
     let speed = c .before .before .before .before in
     let attention = speed .before .before in
-    let loaded = attention .before in
-    let place = loaded .before .before in
+    let place = attention .before .before in
     let flags = place .before .before in
+    let door = flags .before .before .before in
     simp (
       c .before .put-count42 .ensures,
       speed .put-count2 .ensures,
       attention .attention-byte .ensures,
-      loaded .weight-of4 .ensures .0,
       place .put-count4 .ensures,
-      flags .weight-of3 .ensures .0,
-      flags .before .weight-of2 .ensures .0,
-      flags .before .before .weight-of .ensures .0,
+      flags .weight-of5 .ensures .0,
+      flags .before .weight-of4 .ensures .0,
+      flags .before .before .weight-of3 .ensures .0,
+      door .weight-of2 .ensures .0,
+      door .before .weight-of .ensures .0,
     )
 
 pub encode-state-spec : {M : Type 1} → statement M
@@ -89,12 +96,14 @@ encode-state-spec =
     (tie.spec
     weight-of-requires
     weight-of-requires-2
-    add-flags
+    add-door
     weight-of-requires-3
+    weight-of-requires-4
+    add-flags
+    weight-of-requires-5
     add-flags-2
     slice-aggregate-put-count4
     put-count4-requires
-    weight-of-requires-4
     array-write-bytes
     attention-byte-requires
     array-write-bytes-2

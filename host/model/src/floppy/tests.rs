@@ -1,5 +1,6 @@
 //! The floppy tape device's plates, each worked out by hand from the words of 02's A1 and of 01.
 
+mod locked;
 mod marked;
 
 use super::*;
@@ -173,14 +174,18 @@ fn a_fresh_device_tells_250_until_a_list_sets_0() {
 }
 
 #[test]
-fn a_change_keeps_only_the_speed() {
-    let mut record = [0xFF; 32];
-    assert_eq!(change(&mut record, &good_image()), [0; 16]);
-    let expected = [
-        0, 0, 0, 0, 1, 1, 0xFF, 0xFF, 0, 0, 0, 0, 0, 0, 0, 0, 0, 0, 1, 0, 0, 4, 0, 1, 0, 0, 0, 0,
-        0, 0, 0, 0,
-    ];
-    assert_eq!(record, expected);
+fn a_change_keeps_only_the_speed_and_the_lock() {
+    for (before, after) in [(0xFF, 3), (0xFD, 1)] {
+        let mut record = [0xFF; 32];
+        record[4] = before;
+        assert_eq!(change(&mut record, &good_image()), [0; 16]);
+        let mut expected = [
+            0, 0, 0, 0, 0, 1, 0xFF, 0xFF, 0, 0, 0, 0, 0, 0, 0, 0, 0, 0, 1, 0, 0, 4, 0, 1, 0, 0, 0,
+            0, 0, 0, 0, 0,
+        ];
+        expected[4] = after;
+        assert_eq!(record, expected);
+    }
 }
 
 #[test]
@@ -364,7 +369,7 @@ fn plate_the_capabilities_page() {
     let mut bench = Bench::at(0);
     assert_eq!(bench.send(&mode_sense(0x2A)), told(0, 0, 0, 32));
     let page = [
-        31, 0x42, 0, 0, 0, 0, 0, 0, 0, 0, 0, 0, 0x2A, 0x12, 0, 0, 2, 0, 8, 0, 1, 0xF4, 0, 0, 0, 1,
+        31, 0x42, 0, 0, 0, 0, 0, 0, 0, 0, 0, 0, 0x2A, 0x12, 0, 0, 2, 0, 9, 0, 1, 0xF4, 0, 0, 0, 1,
         0, 250, 0, 0x80, 0, 0,
     ];
     assert_eq!(bench.data[..32], page);
@@ -413,7 +418,7 @@ fn plate_a_load_resets_and_an_unload_keeps_the_parameters() {
 
 #[test]
 fn plate_opcodes_of_the_stream_device_are_unknown() {
-    for opcode in [0x01, 0x11, 0x34, 0x19, 0x1E, 0xFF] {
+    for opcode in [0x01, 0x11, 0x34, 0x19, 0x1F, 0xFF] {
         let mut bench = Bench::at(2);
         assert_eq!(bench.send(&short(opcode, 0)), told(0, 2, 0, 0));
         assert_eq!(bench.triple(), [5, 0x20, 0]);
@@ -576,7 +581,7 @@ fn an_accepted_packet_writes_the_record_in_its_canonical_form() {
     bench.record[27..].fill(0xFF);
     assert_eq!(bench.send(&[0; 12]), told(0, 0, 0, 0));
     let expected = [
-        0, 0, 0, 1, 1, 0, 0, 250, 0, 0, 0, 0, 0, 0, 0, 0, 0, 0, 1, 0xE0, 0, 4, 0, 1, 0, 0, 0, 0, 0,
+        0, 0, 0, 1, 3, 0, 0, 250, 0, 0, 0, 0, 0, 0, 0, 0, 0, 0, 1, 0xE0, 0, 4, 0, 1, 0, 0, 0, 0, 0,
         0, 0, 0,
     ];
     assert_eq!(bench.record, expected);

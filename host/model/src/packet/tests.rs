@@ -1,5 +1,6 @@
 //! The plates of the packet drive, and the readings that the interface page settles.
 
+mod locked;
 mod marked;
 
 use super::*;
@@ -382,13 +383,16 @@ fn a_fresh_drive_tells_250_until_a_list_sets_0() {
 }
 
 #[test]
-fn changing_the_cartridge_keeps_only_the_speed() {
-    let mut record = [0xFF; 16];
-    change(&mut record);
-    assert_eq!(
-        record,
-        [0, 0, 0, 0, 1, 1, 0xFF, 0xFF, 0, 0, 0, 0, 0, 0, 0, 0]
-    );
+fn changing_the_cartridge_keeps_only_the_speed_and_the_lock() {
+    for (before, after) in [(0xFF, 3), (0xFD, 1)] {
+        let mut record = [0xFF; 16];
+        record[4] = before;
+        change(&mut record);
+        assert_eq!(
+            record,
+            [0, 0, 0, 0, after, 1, 0xFF, 0xFF, 0, 0, 0, 0, 0, 0, 0, 0]
+        );
+    }
 }
 
 #[test]
@@ -487,7 +491,7 @@ fn mode_pages() {
     assert_eq!(bench.send(&sense).bytes, 32);
     assert_eq!(bench.data[0], 31);
     let page = [
-        0x2A, 0x12, 0, 0, 0, 0, 8, 0, 1, 0xF4, 0, 0, 0, 64, 0, 250, 0, 128, 0, 0,
+        0x2A, 0x12, 0, 0, 0, 0, 9, 0, 1, 0xF4, 0, 0, 0, 64, 0, 250, 0, 128, 0, 0,
     ];
     assert_eq!(bench.data[12..32], page);
     sense[2] = 1;
@@ -588,6 +592,6 @@ fn an_accepted_packet_writes_the_record_in_its_canonical_form() {
     bench.send(&[0; 12]);
     assert_eq!(
         bench.record,
-        [0, 0, 0, 1, 1, 0, 0, 250, 0, 0, 0, 0, 0, 0, 0, 0]
+        [0, 0, 0, 1, 3, 0, 0, 250, 0, 0, 0, 0, 0, 0, 0, 0]
     );
 }

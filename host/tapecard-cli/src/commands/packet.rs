@@ -25,6 +25,8 @@ Sends a packet of twelve hexadecimal bytes, or without bytes each line of
 standard input, and shows status, blocks (of a READ also how many are marked),
 bytes, position and sense, and after MODE SELECT and MODE SENSE the speed: 250
 where the drive was just switched on.
+PREVENT/ALLOW MEDIUM REMOVAL (1E, byte 4 bit 0) locks the door or unlocks it.
+While it is locked every answer says so, and an unload is stopped.
 A line may also be `change` (another cartridge was put in) or `quit`; # begins
 a comment.
 What a packet stored is on the disk before its answer is shown, so an interrupt

@@ -31,6 +31,8 @@ fn details(device: Device, opcode: u8, packet: &[u8]) -> Option<String> {
         opcode::SPACE => Some(space_details(packet[1], asked)),
         opcode::LOAD_UNLOAD if packet[4] & 1 != 0 => Some("(load)".into()),
         opcode::LOAD_UNLOAD => Some("(unload)".into()),
+        opcode::PREVENT_ALLOW if packet[4] & 1 != 0 => Some("(lock)".into()),
+        opcode::PREVENT_ALLOW => Some("(unlock)".into()),
         opcode::LOCATE => {
             let target = long_at(packet.get(3..7)?, 0);
             let unit = if floppy { "block" } else { "place" };
@@ -93,6 +95,14 @@ mod tests {
             packet(&[opcode::LOAD_UNLOAD, 0, 0, 0, 0]),
             "LOAD/UNLOAD (unload)"
         );
+        assert_eq!(
+            packet(&[opcode::PREVENT_ALLOW, 0, 0, 0, 0xFF]),
+            "PREVENT/ALLOW MEDIUM REMOVAL (lock)"
+        );
+        assert_eq!(
+            packet(&[opcode::PREVENT_ALLOW, 0xFF, 0xFF, 0xFF, 0xFE]),
+            "PREVENT/ALLOW MEDIUM REMOVAL (unlock)"
+        );
         assert_eq!(packet(&[opcode::LOCATE, 0, 0]), "LOCATE");
         assert_eq!(packet(&[opcode::READ]), "READ");
         assert_eq!(packet(&[0x99]), "unknown command 99h");
@@ -110,6 +120,10 @@ mod tests {
         assert_eq!(
             packet(&[opcode::LOCATE, 0, 0, 0, 0, 1, 2, 0]),
             "LOCATE block 258"
+        );
+        assert_eq!(
+            packet(&[opcode::PREVENT_ALLOW, 0, 0, 0, 1]),
+            "PREVENT/ALLOW MEDIUM REMOVAL (lock)"
         );
         for opcode in [opcode::REWIND, opcode::SPACE, opcode::READ_POSITION] {
             let unknown = format!("unknown command {opcode:02X}h");

@@ -8,6 +8,7 @@ mod flushing;
 mod images;
 mod interrupts;
 mod labels;
+mod locked;
 mod marked;
 mod names;
 mod overwriting;

@@ -5,7 +5,8 @@ use Rattle.image.proofs.HeaderLaws.{sound}
 use Rattle.opcodes.specs.declared.Command.the-variants.{RequestSense, Read, Write, Inquiry, ModeSelect, ModeSense}
 use Rattle.floppy_parts.specs.Checks.{askedBy}
 use Rattle.floppy_parts.proofs.AskedLaws.{needed-as}
-use Rattle.floppy.proofs.WorkLaws.{was-sensed, was-read, was-written, was-asked, was-selected, was-shown, was-loaded, was-located, was-quiet}
+use Rattle.floppy.proofs.WorkLaws.{was-sensed, was-read, was-written, was-asked, was-selected, was-shown, was-loaded, was-located}
+use Rattle.floppy.proofs.WorkLaws.{was-locked, was-quiet}
 use borrow.Author.Needs.{needs}
 use Rattle.floppy.proofs.work.work.Statement.{statement}
 use Rattle.floppy.proofs.work.work.Tie as tie
@@ -90,6 +91,15 @@ stand-at-requires c κs = search needs
 end-requires : tie.Need-end-requires
 end-requires c κs = search needs
 
+enum-told-9 : tie.Need-enum-told-9
+enum-told-9 c = search needs
+
+is-set-requires-2 : tie.Need-is-set-requires-2
+is-set-requires-2 c κs = search needs
+
+prevent-allow-requires : tie.Need-prevent-allow-requires
+prevent-allow-requires c κs = search needs
+
 end-requires-2 : tie.Need-end-requires-2
 end-requires-2 c κs = search needs
 
@@ -142,7 +152,10 @@ returns-8 : tie.Need-returns-8
 returns-8 c = search was-located
 
 returns-9 : tie.Need-returns-9
-returns-9 c = search was-quiet
+returns-9 c = search was-locked
+
+returns-10 : tie.Need-returns-10
+returns-10 c = search was-quiet
 
 pub work-spec : {M : Type 1} → statement M
 work-spec =
@@ -167,6 +180,9 @@ work-spec =
     enum-told-8
     stand-at-requires
     end-requires
+    enum-told-9
+    is-set-requires-2
+    prevent-allow-requires
     end-requires-2
     same-length
     returns
@@ -184,4 +200,5 @@ work-spec =
     returns-6
     returns-7
     returns-8
-    returns-9)
+    returns-9
+    returns-10)

@@ -97,14 +97,23 @@ settings-requires-2 c κs = search needs
 enum-told-9 : tie.Need-enum-told-9
 enum-told-9 c = search needs
 
-settings-requires-3 : tie.Need-settings-requires-3
-settings-requires-3 c κs = search needs
+is-set-requires-3 : tie.Need-is-set-requires-3
+is-set-requires-3 c κs = search needs
+
+loading-requires : tie.Need-loading-requires
+loading-requires c κs = search needs
 
 enum-told-10 : tie.Need-enum-told-10
 enum-told-10 c = search needs
 
 on-tape-requires-3 : tie.Need-on-tape-requires-3
 on-tape-requires-3 c κs = search needs
+
+enum-told-11 : tie.Need-enum-told-11
+enum-told-11 c = search needs
+
+settings-requires-3 : tie.Need-settings-requires-3
+settings-requires-3 c κs = search needs
 
 no-command-requires : tie.Need-no-command-requires
 no-command-requires c κs = search needs
@@ -150,14 +159,18 @@ returns-8 c =
 
 returns-9 : tie.Need-returns-9
 unfolding askedBy
-returns-9 c = simp (c .settings3 .ensures, c .before .enum-told9 .given .1)
+returns-9 c = simp (c .loading .ensures, ← c .before .is-set3 .ensures, c .before .before .enum-told9 .given .1)
 
 returns-10 : tie.Need-returns-10
 unfolding askedBy
 returns-10 c = simp (c .on-tape3 .ensures, c .before .before .enum-told10 .given .1)
 
 returns-11 : tie.Need-returns-11
-returns-11 c = c .no-command .ensures ∙ none-asked _ _ _ _ (c .before .match .keys11)
+unfolding askedBy
+returns-11 c = simp (c .settings3 .ensures, c .before .enum-told11 .given .1)
+
+returns-12 : tie.Need-returns-12
+returns-12 c = c .no-command .ensures ∙ none-asked _ _ _ _ (c .before .match .keys12)
 
 pub asked-by-spec : {M : Type 1} → statement M
 asked-by-spec =
@@ -193,9 +206,12 @@ asked-by-spec =
     least-requires-3
     settings-requires-2
     enum-told-9
-    settings-requires-3
+    is-set-requires-3
+    loading-requires
     enum-told-10
     on-tape-requires-3
+    enum-told-11
+    settings-requires-3
     no-command-requires
     returns
     returns-2
@@ -207,4 +223,5 @@ asked-by-spec =
     returns-8
     returns-9
     returns-10
-    returns-11)
+    returns-11
+    returns-12)

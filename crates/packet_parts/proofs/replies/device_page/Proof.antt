@@ -4,6 +4,9 @@ use borrow.Author.Needs.{needs}
 use Rattle.packet_parts.proofs.replies.device_page.Statement.{statement}
 use Rattle.packet_parts.proofs.replies.device_page.Tie as tie
 
+door-byte-requires : tie.Need-door-byte-requires
+door-byte-requires c κs = search needs
+
 weight-of-requires : tie.Need-weight-of-requires
 weight-of-requires c κs = search needs
 
@@ -56,12 +59,14 @@ returns c =
       b .put-count22 .ensures,
       d .put-count2 .ensures,
       d .before .before .weight-of .ensures .0,
+      d .before .before .before .before .door-byte .ensures,
     )
 
 pub device-page-spec : {M : Type 1} → statement M
 device-page-spec =
     tie.close
     (tie.spec
+    door-byte-requires
     weight-of-requires
     array-write-bytes
     array-write-bytes-2

@@ -22,5 +22,7 @@ found-first-spec =
     (λ c. search branches depth 20)
     (λ c κs. tt)
     (λ c. search branches depth 20)
+    (λ c κs. tt)
+    (λ c. search branches depth 20)
     (λ c. search branches depth 20)
     (λ c. search branches depth 20))

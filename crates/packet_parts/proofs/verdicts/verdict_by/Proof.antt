@@ -13,7 +13,7 @@ found-first-requires c κs = search needs
 
 returns : tie.Need-returns
 unfolding verdictBy
-returns c = simp (c .found-first .ensures, ← c .before .before .before .before .before .before .is-held .ensures)
+returns c = simp (c .found-first .ensures, ← c .before .before .before .before .before .before .before .before .is-held .ensures)
 
 pub verdict-by-spec : {M : Type 1} → statement M
 verdict-by-spec = tie.close (tie.spec is-held-requires found-first-requires returns)

@@ -5,7 +5,7 @@ use Rattle.image.proofs.HeaderLaws.{sound}
 use Rattle.opcodes.specs.declared.Command.the-variants.{RequestSense, Read, Write, Inquiry, ModeSelect, ModeSense, ReadPosition}
 use Rattle.stream_parts.specs.Checks.{askedBy}
 use Rattle.stream.proofs.WorkLaws.{needed-as, was-unknown, was-tested, was-rewound, was-sensed, was-read, was-written, was-marked, was-spaced}
-use Rattle.stream.proofs.WorkLaws.{was-asked, was-selected, was-shown, was-loaded, was-located, was-placed}
+use Rattle.stream.proofs.WorkLaws.{was-asked, was-selected, was-shown, was-loaded, was-located, was-placed, was-locked}
 use borrow.Author.Needs.{needs}
 use Rattle.stream.proofs.work.work.Statement.{statement}
 use Rattle.stream.proofs.work.work.Tie as tie
@@ -122,6 +122,15 @@ read-position-requires c κs =
     let g = sound _ _ (start .pre .0 .header) in
     (omega arith, needed-as _ ReadPosition _ _ _ (c .before .enum-told14 .given .1) (start .pre .1))
 
+enum-told-15 : tie.Need-enum-told-15
+enum-told-15 c = search needs
+
+is-set-requires-2 : tie.Need-is-set-requires-2
+is-set-requires-2 c κs = search needs
+
+prevent-allow-requires : tie.Need-prevent-allow-requires
+prevent-allow-requires c κs = search needs
+
 returns : tie.Need-returns
 returns c = search was-unknown
 
@@ -200,6 +209,9 @@ same-length-12 c = search needs
 returns-14 : tie.Need-returns-14
 returns-14 c = search was-placed
 
+returns-15 : tie.Need-returns-15
+returns-15 c = search was-locked
+
 pub work-spec : {M : Type 1} → statement M
 work-spec =
     tie.close
@@ -234,6 +246,9 @@ work-spec =
     locate-requires
     enum-told-14
     read-position-requires
+    enum-told-15
+    is-set-requires-2
+    prevent-allow-requires
     returns
     returns-2
     returns-3
@@ -259,4 +274,5 @@ work-spec =
     returns-12
     returns-13
     same-length-12
-    returns-14)
+    returns-14
+    returns-15)

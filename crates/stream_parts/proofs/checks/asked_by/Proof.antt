@@ -54,6 +54,8 @@ asked-by-spec =
     (λ c. search needs)
     (λ c. search needs)
     (λ c κs. search needs)
+    (λ c. search needs)
+    (λ c κs. search needs)
     (λ c. simp (c .no-command .ensures, c .before .enum-told .given .1))
     (λ c. simp (c .on-tape .ensures, c .before .enum-told2 .given .1))
     (λ c. simp (c .on-tape2 .ensures, c .before .enum-told3 .given .1))
@@ -74,6 +76,7 @@ asked-by-spec =
     let b = c .before .before in
     let told = b .before .before .before .enum-told11 .given .1 in
     simp (c .settings2 .ensures, c .before .least3 .ensures, b .mode-length .ensures, ← b .before .bad-page .ensures, told))
-    (λ c. simp (c .settings3 .ensures, ← c .before .is-set4 .ensures, ← c .before .before .is-set3 .ensures, c .before .before .before .enum-told12 .given .1))
+    (λ c. simp (c .loading .ensures, ← c .before .is-set4 .ensures, ← c .before .before .is-set3 .ensures, c .before .before .before .enum-told12 .given .1))
     (λ c. simp (c .on-tape5 .ensures, ← c .before .is-set5 .ensures, c .before .before .enum-told13 .given .1))
-    (λ c. simp (c .on-tape6 .ensures, c .before .enum-told14 .given .1)))
+    (λ c. simp (c .on-tape6 .ensures, c .before .enum-told14 .given .1))
+    (λ c. simp (c .settings3 .ensures, c .before .enum-told15 .given .1)))

@@ -92,6 +92,14 @@ impl PacketDevice {
         }
     }
 
+    /// Whether the door is locked.
+    pub fn locked(&self) -> bool {
+        match self {
+            PacketDevice::Stream(record, _) => record.locked(),
+            PacketDevice::Floppy(record, _) => record.locked(),
+        }
+    }
+
     pub fn speed(&self) -> u16 {
         match self {
             PacketDevice::Stream(record, _) => record.speed(),

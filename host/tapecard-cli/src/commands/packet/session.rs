@@ -91,7 +91,7 @@ impl<'a> PacketSession<'a> {
         match self.send(&bytes)? {
             (Ok(answer), room) => {
                 self.note(&bytes, &answer, &room);
-                show::answer(&answer, &self.device, &mut self.image, told)?;
+                show::answer(&bytes, &answer, &self.device, &mut self.image, told)?;
                 show::speed(&bytes, &self.device, told)?;
                 match room::takes_data(&bytes) || self.out.is_some() {
                     true => Ok(()),

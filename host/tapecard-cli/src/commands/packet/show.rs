@@ -13,6 +13,11 @@ use crate::words::{self, hex};
 /// Returned bytes that are shown where they go to no file.
 const SHOWN_BYTES: usize = 64;
 
+/// What to do about 5/53/02.
+const UNLOCK_FIRST: &str = "\
+the door is locked, so nothing was unloaded; to unlock it send 1Eh
+            with bit 0 of byte 4 clear: 1E 00 00 00 00 00 00 00 00 00 00 00";
+
 pub fn packet(device: Device, bytes: &[u8], out: &mut dyn Write) -> Result<(), Failure> {
     let in_words = words::packets::packet(device, bytes);
     writeln!(out, "{}  {in_words}", hex::show(bytes))?;
@@ -24,14 +29,20 @@ pub fn change(device: &PacketDevice, out: &mut dyn Write) -> Result<(), Failure>
         Some(_) => ", tape parameters set back",
         None => "",
     };
+    // 02, A8: "kept through a cartridge change".
+    let door = match device.locked() {
+        true => ", still locked",
+        false => "",
+    };
     writeln!(
         out,
-        "the cartridge was changed: position 0{tape}, attention pending"
+        "the cartridge was changed: position 0{tape}, attention pending{door}"
     )?;
     Ok(())
 }
 
 pub fn answer(
+    packet: &[u8],
     answer: &Answer,
     device: &PacketDevice,
     image: &mut [u8],
@@ -56,9 +67,23 @@ pub fn answer(
             tape.trks
         )?;
     }
+    door(packet, device, out)?;
     writeln!(out, "  sense     {}", sense_in_words(device))?;
     let sense = device.sense_bytes(image)?;
     writeln!(out, "            {}", hex::show(&sense))?;
+    if device.sense().triple() == triple::REMOVAL_PREVENTED {
+        advise(UNLOCK_FIRST, out)?;
+    }
+    Ok(())
+}
+
+/// The door while it is locked, and after every 1Eh.
+fn door(packet: &[u8], device: &PacketDevice, out: &mut dyn Write) -> Result<(), Failure> {
+    match (device.locked(), packet.first()) {
+        (true, _) => writeln!(out, "  door      locked")?,
+        (false, Some(&opcode::PREVENT_ALLOW)) => writeln!(out, "  door      unlocked")?,
+        _ => (),
+    }
     Ok(())
 }
 
@@ -120,9 +145,14 @@ pub fn refusal(
         out,
         "  nothing changed: record, image and data are as they were"
     )?;
-    if let Some(advice) = advice {
-        writeln!(out, "  advice    {advice}")?;
+    match advice {
+        Some(advice) => advise(&advice, out),
+        None => Ok(()),
     }
+}
+
+fn advise(text: &str, out: &mut dyn Write) -> Result<(), Failure> {
+    writeln!(out, "  advice    {text}")?;
     Ok(())
 }
 
