@@ -3,6 +3,7 @@
 use mathlib.Core.Path.{_≡_, refl, sym}
 use mathlib.Core.Bool.{Bool, true, false}
 use Prim.Native.Nat.{ℕ, zero, suc, _+_, _*_, _/_, _%_, _^_, _<_, _≤_}
+use native.Mathlib.Nat.{add-zero}
 use native.Mathlib.Omega.{arith}
 use borrow.Author.Tests.{eq-eqb, ne-eqb}
 use mathlib.Core.List.{[]}
@@ -98,11 +99,9 @@ pub one-back : (b : Bool) → isSet (weightOf b 1) 1 ≡ b
 one-back true = refl
 one-back false = refl
 
+-- two flags are three of which the last is clear
 pub pair-back : (a b : Bool) → (isSet (weightOf a 1 + weightOf b 2) 1 ≡ a) × (isSet (weightOf a 1 + weightOf b 2) 2 ≡ b)
-pair-back true true = (refl, refl)
-pair-back true false = (refl, refl)
-pair-back false true = (refl, refl)
-pair-back false false = (refl, refl)
+pair-back a b = let t = rw add-zero at (three-back a b false) in (t .0, t .1 .0)
 
 -- ---- cases
 

@@ -1,38 +1,33 @@
 -- The lock on the bytes that a call leaves: they spell what the engine left.
 -- Assumes nothing.
-use mathlib.Core.Bool.{true, false, not}
+use mathlib.Core.Bool.{true, false}
 use mathlib.Core.List.{List}
 use mathlib.Core.Path.{_≡_, refl, ap, _∙_}
 use Prim.Native.Nat.{ℕ}
 use lib.Dec.{eqb}
 use lib.ListN.{getD}
-use Rattle.numbers.proofs.Cases.{either}
 use Rattle.opcodes.specs.declared.Command.{Command}
 use Rattle.opcodes.specs.declared.Command.the-variants.{PreventAllow}
 use Rattle.opcodes.specs.Commands.{Supported, streamCommands, floppyCommands, lookUp, streamCommand, floppyCommand}
 use Rattle.opcodes.proofs.Classes.{classOf, under, only-under}
 use Rattle.packet_state.specs.declared.state.State.{State}
-use Rattle.packet_parts.specs.Answers.{ends}
 use Rattle.packet_parts.specs.Requests.{requestUnder, preventBit}
 use Rattle.packet_record.specs.PacketRecord.{decodeState}
 use Rattle.stream_parts.specs.Requests.{requestOf}
 use Rattle.floppy_parts.specs.declared.tape.Floppy.{Floppy}
-use Rattle.floppy_parts.specs.declared.tape.FloppyOutcome.{FloppyOutcome}
-use Rattle.floppy_parts.specs.Headers.{isFull}
 use Rattle.floppy_parts.specs.Requests.{floppyRequest}
-use Rattle.floppy.specs.Packet.{mounted, changedFloppy}
 use Rattle.floppy_record.specs.FloppyRecord.{decodeFloppy}
 use Rattle.tapecard.specs.FloppyCalls.{floppyChangeCall, floppyPacketCall}
 use Rattle.tapecard.specs.PacketCalls.{packetChange, packetCall}
 use Rattle.stream_laws.proofs.Locking.{locked-stays}
-use Rattle.floppy_laws.proofs.Locking.{lock-starts, locked-stays as floppy-stays}
+use Rattle.floppy_laws.proofs.Locking.{changed-by, lock-starts, locked-stays as floppy-stays}
 use Rattle.card_laws.specs.Promises.{LockedIn, Allows, CardLockedStays}
 use Rattle.card_laws.proofs.PacketFollowing.{packet-follows}
 use Rattle.card_laws.proofs.FloppyFollowing.{floppy-follows}
 
 -- 1Eh is the one byte under which a device's list has the lock
-by-1eh : (commands : List Supported) (x : ℕ) → under 14 0x1e commands ≡ true → lookUp commands x ≡ PreventAllow → x ≡ 0x1e
-by-1eh commands x u e = only-under 14 0x1e x commands u refl (ap (λ (c : Command). eqb (classOf c) 14) e)
+by-1eh : (commands : List Supported) (x : ℕ) → under (classOf PreventAllow) 0x1e commands ≡ true → lookUp commands x ≡ PreventAllow → x ≡ 0x1e
+by-1eh commands x u e = only-under (classOf PreventAllow) 0x1e x commands u refl (ap (λ (c : Command). eqb (classOf c) (classOf PreventAllow)) e)
 
 stream-allows : (packet : List ℕ) → requestOf packet .command ≡ PreventAllow → preventBit (requestOf packet) ≡ false → Allows packet
 unfolding requestOf requestUnder streamCommand
@@ -46,10 +41,6 @@ floppy-allows packet c p = (by-1eh floppyCommands (getD packet 0 0) refl c, p)
 spelled : (state : List ℕ) (st : State) → decodeState state ≡ st → st .loaded ≡ true → st .locked ≡ true → LockedIn state
 unfolding decodeState
 spelled state st e l k = (ap (λ (x : State). x .loaded) e ∙ l, ap (λ (x : State). x .locked) e ∙ k)
-
-changed-loaded : (s : List ℕ) (f : Floppy) → f .shared .loaded ≡ true → changedFloppy s f .state .shared .loaded ≡ true
-unfolding mounted ends
-changed-loaded s f l = either (λ (x : FloppyOutcome). x .state .shared .loaded ≡ true) (not (isFull s)) _ _ (λ e. l) (λ e. refl)
 
 pub card-locked-stays : CardLockedStays
 unfolding decodeState decodeFloppy
@@ -68,5 +59,5 @@ card-locked-stays =
       floppy-change = λ state image b h.
           let f = decodeFloppy state in
           spelled (floppyChangeCall state image .state) _ (ap (λ (x : Floppy). x .shared) (floppy-follows .change state image b))
-          (changed-loaded image f (h .0)) (lock-starts .changed image f ∙ h .1);
+          (changed-by (λ x. x .loaded ≡ true) image f (h .0) refl) (lock-starts .changed image f ∙ h .1);
     }

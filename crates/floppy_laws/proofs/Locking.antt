@@ -2,12 +2,15 @@
 -- Assumes nothing.
 use Prim.Native.Nat.{ℕ}
 use mathlib.Core.Bool.{false, not}
+use mathlib.Core.List.{List}
 use mathlib.Core.Path.{_≡_, refl, ap}
 use Rattle.numbers.proofs.Cases.{either}
 use Rattle.image.specs.declared.header.Header.{Header}
 use Rattle.opcodes.specs.declared.Command.{Command}
 use Rattle.opcodes.specs.declared.Command.the-variants.{Unknown, TestUnitReady, Rewind, RequestSense, Read, Write, WriteFilemarks, Space, Inquiry}
 use Rattle.opcodes.specs.declared.Command.the-variants.{ModeSelect, ModeSense, LoadUnload, Locate, ReadPosition, PreventAllow}
+use Rattle.packet_state.specs.declared.state.State.{State}
+use Rattle.packet_state.specs.States.{changedState}
 use Rattle.packet_parts.specs.declared.requests.Request.{Request}
 use Rattle.packet_parts.specs.Answers.{ends}
 use Rattle.packet_parts.specs.Requests.{loadBit}
@@ -15,11 +18,12 @@ use Rattle.packet_work.specs.Settings.{loadWork, lockWork}
 use Rattle.packet_laws.proofs.Locking.{LocksDoor}
 use Rattle.packet_laws.proofs.Locking as any-device
 use Rattle.packet_laws.proofs.Records.{not-clear}
+use Rattle.floppy_parts.specs.declared.tape.Floppy.{Floppy}
 use Rattle.floppy_parts.specs.declared.tape.FloppyOutcome.{FloppyOutcome}
 use Rattle.floppy_parts.specs.Checks.{askedBy}
 use Rattle.floppy_parts.specs.Headers.{isFull}
 use Rattle.floppy_parts.specs.Settings.{loadedTape, tapeAfter}
-use Rattle.floppy.specs.Packet.{floppyDevice, mounted}
+use Rattle.floppy.specs.Packet.{floppyDevice, mounted, changedFloppy}
 use Rattle.floppy.specs.Work.{workOf}
 use Rattle.floppy_laws.specs.Demands.{LockFollows, LockedStays, LockStarts}
 use Rattle.floppy_laws.proofs.Records.{keeps-record, gives-page}
@@ -64,10 +68,15 @@ lock-follows = any-device.lock-follows floppyDevice working locks-door
 pub locked-stays : LockedStays
 locked-stays = any-device.locked-stays floppyDevice working locks-door
 
+-- P holds of what a change leaves of the shared record where it holds of the record as it was and as 01 changes it
+pub changed-by : (P : State → Type 0) (s : List ℕ) (f : Floppy) → P (f .shared) → P (changedState (f .shared)) → P (changedFloppy s f .state .shared)
+unfolding mounted ends
+changed-by P s f was now = either (λ (x : FloppyOutcome). P (x .state .shared)) (not (isFull s)) _ _ (λ e. was) (λ e. now)
+
 pub lock-starts : LockStarts
 unfolding mounted ends
 lock-starts =
     record {
       fresh = λ s f e. rw e;
-      changed = λ s f. either (λ (x : FloppyOutcome). x .state .shared .locked ≡ f .shared .locked) (not (isFull s)) _ _ (λ e. refl) (λ e. refl);
+      changed = λ s f. changed-by (λ x. x .locked ≡ f .shared .locked) s f refl refl;
     }
