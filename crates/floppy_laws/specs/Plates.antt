@@ -6,10 +6,11 @@ use mathlib.Core.List.{List, [], _∷_, _++_}
 use lib.ListN.{length, replicate, take, set}
 use Rattle.numbers.specs.Choice.{_≡ᵇ_}
 use Rattle.numbers.specs.Counts.{countBytes}
+use Rattle.numbers.specs.Same.{same}
 use Rattle.image.specs.Header.{fieldsOf}
 use Rattle.packet_parts.specs.Answers.{Left}
 use Rattle.packet_parts.specs.Replies.{senseBytes}
-use Rattle.packet_laws.specs.Plates.{plateImage, standing, sent, senseOf, same}
+use Rattle.packet_laws.specs.Plates.{plateImage, standing, sent, senseOf}
 use Rattle.packet_laws.specs.Words.{numberOf, blocksOf, bytesOf}
 use Rattle.floppy_parts.specs.declared.tape.Floppy.{Floppy}
 use Rattle.floppy_parts.specs.Tape.{resetTape, listedTape, floppyOf}

@@ -1,12 +1,14 @@
 -- Laws of big-endian counts, each over the width.
 -- Assumes nothing.
-use mathlib.Core.Path.{_≡_, refl, ap, _∙_}
+use mathlib.Core.Path.{_≡_, refl, sym, ap, _∙_}
 use mathlib.Core.List.{List, [], _∷_, _++_, append-assoc}
-use Prim.Native.Nat.{ℕ, zero, suc, _+_, _/_, _%_, _^_, _<_, _≤_}
+use Prim.Native.Nat.{ℕ, zero, suc, _+_, _*_, _/_, _%_, _^_, _<_, _≤_}
 use native.Mathlib.Omega.{arith}
-use lib.ListN.{length, getD, length-set, length-append}
-use lib.Seq.{getD-set-same, getD-set-other, getD-append-seam}
+use lib.ListN.{length, getD, set, drop, length-set, length-append, length-drop}
+use lib.Seq.{getD-set-same, getD-set-other, getD-append-seam, getD-append-add, getD-drop, take-suc}
 use Rattle.numbers.specs.Counts.{countAt, putCount, countBytes}
+use Rattle.numbers.specs.Over.{over, part}
+use Rattle.numbers.proofs.OverLaws.{part-first, over-length, over-none, set-over, over-more}
 
 -- k bytes spell a number below 256 ^ k
 pub count-bound : (s : List ℕ) (p k : ℕ) → ((i : ℕ) → getD s i 0 < 256) → countAt s p k < 256 ^ k
@@ -51,7 +53,7 @@ count-read-back s p (suc (suc k)) v h b =
     let w = count-read-back s p (suc k) (v / 256) (omega arith) (omega arith) in
     omega (arith, e, q, w)
 
-bytes-length : (k v : ℕ) → length (countBytes k v) ≡ k
+pub bytes-length : (k v : ℕ) → length (countBytes k v) ≡ k
 bytes-length zero v = refl
 bytes-length (suc k) v = simp length-append (omega (arith, bytes-length k (v / 256)))
 
@@ -66,3 +68,39 @@ bytes-read-back (suc (suc k)) v rest b =
     let e = ap (λ (i : ℕ). getD (high ++ last) i 0) n ∙ getD-append-seam high (v % 256) rest 0 in
     let w = bytes-read-back (suc k) (v / 256) last (omega arith) in
     rw (append-assoc high ((v % 256) ∷ []) rest) (omega (arith, e, w))
+
+-- what stands before a number does not change it
+pub count-after : (xs ys : List ℕ) (p k : ℕ) → countAt (xs ++ ys) (length xs + p) k ≡ countAt ys p k
+count-after xs ys p zero = refl
+count-after xs ys p (suc zero) = getD-append-add xs ys p 0
+count-after xs ys p (suc (suc k)) =
+    let n : length xs + p + suc k ≡ length xs + (p + suc k) = omega arith in
+    let e = ap (λ (i : ℕ). getD (xs ++ ys) i 0) n ∙ getD-append-add xs ys (p + suc k) 0 in
+    omega (arith, e, count-after xs ys p (suc k))
+
+-- bytes that spell a number are its bytes
+pub bytes-of-count : (s : List ℕ) (p k : ℕ) → ((i : ℕ) → getD s i 0 < 256) → p + k ≤ length s → countBytes k (countAt s p k) ≡ part s p k
+bytes-of-count s p zero h l = refl
+bytes-of-count s p (suc zero) h l =
+    let b : getD s p 0 % 256 ≡ getD s p 0 = omega (arith, h p) in
+    rw (b, part-first s p 0 (omega arith)) refl
+bytes-of-count s p (suc (suc k)) h l =
+    let x = countAt s p (suc k) in
+    let y = getD s (p + suc k) 0 in
+    let high : (x * 256 + y) / 256 ≡ x = omega (arith, h (p + suc k)) in
+    let low : (x * 256 + y) % 256 ≡ y = omega (arith, h (p + suc k)) in
+    let d : suc k < length (drop p s) = rw length-drop (omega arith) in
+    rw (high, low, bytes-of-count s p (suc k) h (omega arith), take-suc (drop p s) (suc k) 0 d, getD-drop) refl
+
+-- a number put is its bytes laid over
+pub put-count-over : (s : List ℕ) (p k v : ℕ) → p + k ≤ length s → putCount s p k v ≡ over s p (countBytes k v)
+put-count-over s p zero v l = sym (over-none s p)
+put-count-over s p (suc zero) v l = set-over s p (v % 256) (omega arith)
+put-count-over s p (suc (suc k)) v l =
+    let high = countBytes (suc k) (v / 256) in
+    let n : p + suc k ≡ p + length high = omega (arith, bytes-length (suc k) (v / 256)) in
+    let m = over-length s high p (omega (arith, bytes-length (suc k) (v / 256))) in
+    ap (λ (t : List ℕ). set t (p + suc k) (v % 256)) (put-count-over s p (suc k) (v / 256) (omega arith))
+    ∙ set-over (over s p high) (p + suc k) (v % 256) (omega (arith, m))
+    ∙ ap (λ (i : ℕ). over (over s p high) i ((v % 256) ∷ [])) n
+    ∙ over-more s high ((v % 256) ∷ []) p (omega (arith, bytes-length (suc k) (v / 256)))

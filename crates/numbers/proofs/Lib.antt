@@ -4,4 +4,5 @@ pub mod CountLaws
 pub mod MemberLaws
 pub mod OverLaws
 pub mod RuleLaws
+pub mod SameLaws
 pub mod TableRule

@@ -1,13 +1,14 @@
 -- Laws of bytes laid over a part of a list.
 -- Assumes nothing.
 use mathlib.Core.Path.{_≡_, refl, sym, ap, _∙_}
-use mathlib.Core.List.{List, [], _∷_, _++_, append-nil}
+use mathlib.Core.List.{List, [], _∷_, _++_, append-nil, append-assoc}
 use Prim.Native.Nat.{ℕ, zero, suc, _+_, _-_, _<_, _≤_}
 use native.Mathlib.Nat.{add-sub-cancel-left, le-refl, not-suc-le-zero, le-of-suc-le-suc}
 use native.Mathlib.Numerals.{add-one}
 use native.Mathlib.Omega.{arith}
-use lib.ListN.{length, take, drop, set, getD, length-append, length-drop, drop-of-length-le, List·getD-append}
+use lib.ListN.{length, take, drop, set, getD, length-append, length-drop, drop-of-length-le, take-append-drop, List·getD-append}
 use lib.Seq.{take-all, take-length, length-take-le, getD-take, getD-drop, getD-append-add, ext-getD}
+use lib.Seq.{set-split, drop-drop, take-at, drop-at, take-append-seam, drop-append-seam}
 use borrow.Rule.Slice.PartMut.{midOf, putMid}
 use Rattle.numbers.specs.Over.{over, part}
 
@@ -69,6 +70,27 @@ over-part s xs a h =
     ext-getD 0 (part (over s a xs) a (length xs)) xs p (λ i k.
     let m : i < length xs = omega arith in
     part-at (over s a xs) a (length xs) i m ∙ over-in s xs a i (omega arith) m)
+
+-- none laid over changes nothing
+pub over-none : (s : List ℕ) (a : ℕ) → over s a [] ≡ s
+over-none s a = take-append-drop a s
+
+-- a byte stored is one laid over
+pub set-over : (s : List ℕ) (i x : ℕ) → i < length s → set s i x ≡ over s i (x ∷ [])
+set-over s i x h = rw (set-split s i x h, drop-drop, add-one) refl
+
+-- what is laid over right after the first part is laid over with it
+pub over-more : (s xs ys : List ℕ) (a : ℕ) → a + length xs ≤ length s → over (over s a xs) (a + length xs) ys ≡ over s a (xs ++ ys)
+over-more s xs ys a h =
+    let rest = drop (length xs) (drop a s) in
+    let front = take a s ++ xs in
+    let n : length front ≡ a + length xs = rw length-append (omega (arith, length-take-le a s (omega arith))) in
+    rw (← append-assoc (take a s) xs rest, take-at front rest (a + length xs) n, drop-at front rest (a + length xs) n, length-append, ← drop-drop (length ys) (length xs) (drop a s))
+    (append-assoc (take a s) xs (ys ++ drop (length ys) rest) ∙ ap (λ (l : List ℕ). take a s ++ l) (sym (append-assoc xs ys (drop (length ys) rest))))
+
+-- laid over what follows a front
+pub over-after : (front s xs : List ℕ) → over (front ++ s) (length front) xs ≡ front ++ over s 0 xs
+over-after front s xs = rw (take-append-seam, drop-append-seam) refl
 
 -- ---- a copier's loop
 

@@ -5,3 +5,4 @@ pub mod Member
 pub mod Outcomes
 pub mod Over
 pub mod RuleList
+pub mod Same

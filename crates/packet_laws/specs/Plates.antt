@@ -8,6 +8,7 @@ use lib.ListN.{replicate, set, getD}
 use Rattle.numbers.specs.Choice.{if_then_else_, _≡ᵇ_}
 use Rattle.numbers.specs.Counts.{countBytes}
 use Rattle.numbers.specs.Over.{part}
+use Rattle.numbers.specs.Same.{same}
 use Rattle.packet_state.specs.declared.state.Attention.the-variants.{Nothing}
 use Rattle.packet_state.specs.declared.state.State.{State}
 use Rattle.packet_state.specs.States.{atPlace, withAttention, freshState}
@@ -40,13 +41,6 @@ sent a b c d e f g = a ∷ b ∷ c ∷ d ∷ e ∷ f ∷ g ∷ 0 ∷ 0 ∷ 0 ∷
 -- the 20 bytes of 03h by those that are not 0: byte 0, byte 2, information, ASC, ASCQ
 abbrev pub senseOf : ℕ → ℕ → ℕ → ℕ → ℕ → List ℕ
 senseOf first key information asc ascq = first ∷ 0 ∷ key ∷ 0 ∷ 0 ∷ 0 ∷ information ∷ 0x0c ∷ 0 ∷ 0 ∷ 0 ∷ 0 ∷ asc ∷ ascq ∷ replicate 6 0
-
--- the same numbers in the same order
-abbrev pub same : List ℕ → List ℕ → Bool
-same [] [] = true
-same [] (y ∷ ys) = false
-same (x ∷ xs) [] = false
-same (x ∷ xs) (y ∷ ys) = (x ≡ᵇ y) && same xs ys
 
 -- ---- 02, A2, worked out by hand: what a drive tells of its speed
 

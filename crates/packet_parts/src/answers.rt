@@ -9,26 +9,32 @@ use packet_state::state::Sense;
 use packet_state::state::State;
 use packet_state::state::with_attention;
 use packet_state::state::with_sense;
-ghost use Rattle.packet_parts.specs.Answers.{answered, refused, endsBefore, answeredWith, ends, withMarked};
+ghost use Rattle.packet_parts.specs.Answers.{refusal, answered, refused, endsBefore, answeredWith, ends, withMarked};
 
 const GOOD: u8 = 0;
 
 const CHECK_CONDITION: u8 = 2;
 
-pub fn refuse(state: State, number: u8) -> Outcome
-    ensures { λ r. ⌜ r ≡ refused state number ⌝ }
+pub fn refusal_of(number: u8) -> Answer
+    ensures { λ r. ⌜ r ≡ refusal number ⌝ }
 {
-    let answer = Answer {
+    Answer {
         number,
         status: 0,
         blocks: 0,
         bytes: 0,
         marked: 0,
-    };
+    }
+}
+
+pub fn refuse(state: State, number: u8) -> Outcome
+    ensures { λ r. ⌜ r ≡ refused state number ⌝ }
+{
+    let answer = refusal_of(number);
     Outcome { answer, state }
 }
 
-fn answer_of(status: u8, blocks: u32, bytes: u32) -> Answer
+pub fn answer_of(status: u8, blocks: u32, bytes: u32) -> Answer
     ensures { λ r. ⌜ r ≡ answered status blocks bytes ⌝ }
 {
     Answer {

@@ -13,11 +13,11 @@ use Rattle.pulse.specs.Reports.{errorRead, itemGiven, reportOf, statusAsked, st
 use Rattle.pulse.specs.Rules.{cartridgeFits, keepsRules}
 use Rattle.pulse.specs.Train.{stepReset, stepUnsupported, trainStep}
 use Rattle.pulse_laws.specs.Demands.{PlatesPrint}
-use Rattle.pulse_laws.specs.Plates.{allPrint, prints, same}
+use Rattle.pulse_laws.specs.Plates.{allPrint, prints}
 use Rattle.pulse_laws.specs.Runs.{afterTrains, answers}
 
 pub plates-print : PlatesPrint
-unfolding afterTrains answers allPrint prints same powerOn insertCall inserted loadStarted trainCall keepsRules cartridgeFits isIn
+unfolding afterTrains answers allPrint prints powerOn insertCall inserted loadStarted trainCall keepsRules cartridgeFits isIn
     trainStep stepReset stepArgument argumentRead argumentTaken trackSought nibbleOf needed nibbleTaken skipped runStarted
     stepReport itemGiven stepUnsupported latched stepOpenReport reportOf statusAsked errorRead stepCommand checked obeyed
 plates-print = refl

@@ -5,6 +5,7 @@ use mathlib.Core.Bool.{Bool, true, false, _&&_}
 use mathlib.Core.List.{List, [], _∷_, map}
 use Rattle.numbers.specs.Choice.{_≡ᵇ_}
 use Rattle.numbers.specs.Flags.{weightOf}
+use Rattle.numbers.specs.Same.{same}
 use Rattle.pulse_codes.specs.Codes.{reportError, skipExtendedForward}
 use Rattle.pulse.specs.declared.calls.Step.{Step}
 use Rattle.pulse.specs.declared.drive.Drive.{Drive}
@@ -53,12 +54,6 @@ plates =
       target = 0;
     }
     ∷ []
-
-unfoldable pub same : List ℕ → List ℕ → Bool
-same [] [] = true
-same [] (y ∷ ys) = false
-same (x ∷ xs) [] = false
-same (x ∷ xs) (y ∷ ys) = (x ≡ᵇ y) && same xs ys
 
 -- the plate prints as it should
 unfoldable pub prints : Plate → Bool

@@ -8,7 +8,7 @@ ghost use Rattle.packet_parts.specs.Answers.{done};
 ghost use Rattle.stream_parts.specs.Checks.{askedBy};
 ghost use Rattle.packet_parts.specs.Replies.{replyEnds, repliedInto};
 ghost use Rattle.stream_parts.specs.Replies.{modeLength, modeBytes, positionBytes};
-ghost use Rattle.stream.specs.Work.{Passed, endingOf, readWork, writeEnding, writeWork, markWork, spaceRun, spaceWork, selectWork};
+ghost use Rattle.stream.specs.Work.{Passed, endingOf, readWork, writeEnding, writeWork, markWork, spaceRun, spaceEnds, spaceWork, selectWork};
 ghost use Rattle.stream.specs.Work.{locateWork, workOf};
 use image::elements::record_to;
 use image::header::Header;
@@ -151,6 +151,16 @@ fn space_run(image: &[u8], h: Header, p: u32, code: u8, count: u32) -> Moved
     marks_on(image, kinds, end, n, p)
 }
 
+// How SPACE ends after its run, which an index may have given (02, A4).
+pub fn end_space(h: Header, state: State, moved: Moved) -> Outcome
+    requires { ⌜ h .warning ≤ h .capacity ⌝ }
+    ensures { λ r. ⌜ r ≡ spaceEnds h state moved ⌝ }
+{
+    let stop = moved.stop;
+    let ending = ending_of(h, stop, moved.left);
+    end(stand_at(state, moved.place), ending, 0, 0)
+}
+
 fn space(image: &[u8], h: Header, state: State, code: u8, count: u32) -> Outcome
     requires { ⌜ headerOf (now image) ≡ Good h ⌝ }
     requires { ⌜ state .position ≤ h .recorded ⌝ }
@@ -162,10 +172,7 @@ fn space(image: &[u8], h: Header, state: State, code: u8, count: u32) -> Outcome
         return end(stand_at(state, h.recorded), Ending::Good, 0, 0);
     }
     let p = state.position;
-    let moved = space_run(image, h, p, code, count);
-    let stop = moved.stop;
-    let ending = ending_of(h, stop, moved.left);
-    end(stand_at(state, moved.place), ending, 0, 0)
+    end_space(h, state, space_run(image, h, p, code, count))
 }
 
 // 12h: the device type of a tape.

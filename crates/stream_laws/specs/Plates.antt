@@ -5,12 +5,13 @@ use mathlib.Core.Bool.{Bool, true, _&&_}
 use mathlib.Core.List.{List, [], _∷_}
 use lib.ListN.{replicate, set}
 use Rattle.numbers.specs.Choice.{_≡ᵇ_}
+use Rattle.numbers.specs.Same.{same}
 use Rattle.image.specs.Header.{fieldsOf}
 use Rattle.packet_state.specs.declared.state.State.{State}
 use Rattle.packet_parts.specs.Answers.{Left}
 use Rattle.stream.specs.Packet.{packetStep}
 use Rattle.packet_parts.specs.Replies.{senseBytes}
-use Rattle.packet_laws.specs.Plates.{plateImage, standing, sent, senseOf, same, statusBeside}
+use Rattle.packet_laws.specs.Plates.{plateImage, standing, sent, senseOf, statusBeside}
 use Rattle.packet_laws.specs.Words.{blocksOf}
 use Rattle.stream_laws.specs.Words.{BeginsWork}
 

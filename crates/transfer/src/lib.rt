@@ -22,7 +22,7 @@ pub struct Moved {
     pub stop: Stop,
 }
 
-fn halt(place: u32, left: u32, stop: Stop) -> Moved
+pub fn halt(place: u32, left: u32, stop: Stop) -> Moved
     ensures { λ r. ⌜ r ≡ halts place left stop ⌝ }
 {
     Moved { place, left, stop }
