@@ -1,0 +1,9 @@
+pub mod MarkLaws
+pub mod EntryLaws
+pub mod LoopLaws
+pub mod SpaceLaws
+pub mod FreshLaws
+pub mod CheckLaws
+pub mod RewriteLaws
+pub mod KeepLaws
+pub mod CallLaws

@@ -1,0 +1,19 @@
+-- 02, A4: an index compared with a fresh one, entry by entry.
+-- Assumes nothing.
+use Prim.Native.Nat.{ℕ, _+_}
+use mathlib.Core.Bool.{Bool, true, _&&_}
+use mathlib.Core.List.{List, [], _∷_}
+use lib.ListN.{length}
+use Rattle.numbers.specs.Choice.{if_then_else_, _≡ᵇ_}
+use Rattle.index.specs.declared.checking.Compared.{Compared}
+use Rattle.index.specs.declared.checking.Compared.the-variants.{Differs, Same}
+use Rattle.index.specs.Spacing.{entryAt}
+
+-- the entries from entry n on are these
+unfoldable pub holdsEntries : List ℕ → ℕ → List ℕ → Bool
+holdsEntries index n [] = true
+holdsEntries index n (p ∷ ps) = (entryAt index n ≡ᵇ p) && holdsEntries index (n + 1) ps
+
+-- the first entries are these filemarks, and so many they are; or one differs
+unfoldable pub comparedWith : List ℕ → List ℕ → Compared
+comparedWith index marks = if holdsEntries index 0 marks then Same (length marks) else Differs

@@ -1,0 +1,5 @@
+pub mod Ways
+pub mod Calls
+pub mod Keeping
+pub mod Listing
+pub mod PlateTable
