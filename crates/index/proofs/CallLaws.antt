@@ -1,18 +1,17 @@
 -- The ways of `make` and `packet`.
 -- Assumes nothing.
-use mathlib.Core.Path.{_≡_, refl, sym, ap, _∙_}
+use mathlib.Core.Path.{_≡_, refl, sym, _∙_}
 use mathlib.Core.Bool.{Bool, true, false}
-use mathlib.Core.List.{List, _++_}
-use Prim.Native.Nat.{ℕ, _+_, _*_, _-_, _≤_}
+use mathlib.Core.List.{List}
+use Prim.Native.Nat.{ℕ, _+_, _*_, _-_}
 use native.Mathlib.Omega.{arith}
 use borrow.Author.Tests.{eq-eqb, ne-eqb, ltb-false}
 use lib.Dec.{ltb}
-use lib.ListN.{length, replicate}
-use Rattle.numbers.specs.Over.{over}
+use lib.ListN.{length}
 use Rattle.image.specs.declared.header.Header.{Header}
 use Rattle.image.specs.declared.header.Judged.{Judged}
 use Rattle.image.specs.declared.header.Judged.the-variants.{Good, Broken}
-use Rattle.image.specs.Header.{fieldsOf, headerOf}
+use Rattle.image.specs.Header.{headerOf}
 use Rattle.image.proofs.HeaderLaws.{fields-are, keeps-of, broken-of}
 use Rattle.packet_state.specs.declared.state.Answer.{Answer}
 use Rattle.packet_state.specs.declared.state.Outcome.{Outcome}
@@ -20,8 +19,8 @@ use Rattle.packet_state.specs.declared.state.State.{State}
 use Rattle.packet_state.specs.States.{keepsRecordRules}
 use Rattle.packet_parts.specs.Answers.{done, refused, refusal, answered}
 use Rattle.stream.specs.Packet.{packetStep}
-use Rattle.index.specs.Entries.{marksFrom, filemarksOf, noFilemark, entriesOf, entryBytes, indexLength, freshIndex, isFresh}
-use Rattle.index.specs.Keeping.{made, makes, Indexed, indexed, afresh, Beside, indexedStep}
+use Rattle.index.specs.Entries.{marksFrom, filemarksOf, entriesOf, freshIndex, isFresh}
+use Rattle.index.specs.Keeping.{made, makes, indexed, afresh, Beside, indexedStep}
 use Rattle.index.specs.Rewriting.{entriesPut}
 
 -- ---- the ways of `make`

@@ -7,7 +7,6 @@ use native.Mathlib.Omega.{arith}
 use lib.ListN.{length, getD, drop, length-append}
 use lib.Seq.{drop-append-add}
 use Rattle.numbers.specs.Counts.{countAt, countBytes}
-use Rattle.numbers.specs.Over.{over, part}
 use Rattle.numbers.proofs.CountLaws.{bytes-length, bytes-read-back, count-after}
 use Rattle.index.specs.Entries.{entryBytes}
 

@@ -1,25 +1,24 @@
 -- What an index that is fresh tells of its image.
 -- Assumes nothing.
-use mathlib.Core.Path.{_≡_, refl, sym, ap, _∙_}
-use mathlib.Core.Bool.{Bool, true, false}
-use mathlib.Core.List.{List, [], _∷_, _++_, append-assoc}
-use Prim.Native.Nat.{ℕ, zero, suc, _+_, _*_, _-_, _^_, _<_, _≤_}
+use mathlib.Core.Path.{_≡_, sym, ap, _∙_}
+use mathlib.Core.Bool.{true}
+use mathlib.Core.List.{List, _++_, append-assoc}
+use Prim.Native.Nat.{ℕ, _+_, _-_, _^_, _<_, _≤_}
 use native.Mathlib.Omega.{arith}
 use borrow.Author.Tests.{ltb-true, ltb-false}
 use lib.Dec.{ltb}
-use lib.ListN.{length, getD, drop, replicate, length-append, length-replicate, getD-replicate, List·getD-append, replicate-append-replicate}
-use lib.Seq.{getD-append-add, drop-append-add, drop-at}
+use lib.ListN.{length, getD, drop, replicate, length-append, length-replicate, getD-replicate, List·getD-append}
+use lib.Seq.{getD-append-add}
 use Rattle.numbers.specs.Over.{over}
 use Rattle.numbers.proofs.Cases.{test}
-use Rattle.numbers.proofs.OverLaws.{over-after}
 use Rattle.numbers.proofs.SameLaws.{same-of}
 use Rattle.image.specs.declared.header.Header.{Header}
 use Rattle.image.specs.declared.header.Judged.the-variants.{Good}
-use Rattle.image.specs.Header.{fieldsOf, headerOf}
+use Rattle.image.specs.Header.{headerOf}
 use Rattle.image.proofs.HeaderLaws.{fields-are, sound}
 use Rattle.index.specs.Entries.{marksFrom, filemarksOf, noFilemark, entriesOf, entryBytes, freshIndex, isFresh}
 use Rattle.index.specs.Spacing.{entryAt, BelowFirst, entriesBelow}
-use Rattle.index.proofs.EntryLaws.{entries-length, entries-append, entries-drop, entry-read}
+use Rattle.index.proofs.EntryLaws.{entry-read}
 use Rattle.index.proofs.LoopLaws.{parts-count}
 use Rattle.index.proofs.MarkLaws.{marks-parted, marks-few, marks-within}
 

@@ -3,19 +3,19 @@
 use mathlib.Core.Path.{_≡_, refl, sym, ap, _∙_}
 use mathlib.Core.Bool.{Bool, true, false, _&&_, false≢true}
 use mathlib.Core.List.{List}
-use Prim.Native.Nat.{ℕ, _≤_, _<_}
+use Prim.Native.Nat.{ℕ, _≤_}
 use native.Mathlib.Omega.{arith}
-use borrow.Author.Tests.{eqb-true, eqb-false, eq-eqb, leb-true, leb-false}
+use borrow.Author.Tests.{eqb-true, eqb-false, leb-true, leb-false}
 use lib.Dec.{eqb, leb}
 use lib.ListN.{length}
 use Rattle.numbers.specs.Choice.{_≡ᵇ_}
-use Rattle.numbers.proofs.Cases.{and-l, and-r, test, never}
+use Rattle.numbers.proofs.Cases.{and-l, and-r, test}
 use Rattle.numbers.proofs.SameLaws.{same-of}
 use Rattle.image.specs.declared.header.Header.{Header}
 use Rattle.image.specs.declared.header.Judged.the-variants.{Good}
 use Rattle.image.specs.Elements.{kindAt}
 use Rattle.image.specs.Header.{headerOf, withRecorded}
-use Rattle.image.proofs.HeaderLaws.{fields-are, keeps-of, sound}
+use Rattle.image.proofs.HeaderLaws.{fields-are, keeps-of}
 use Rattle.opcodes.specs.declared.Command.{Command}
 use Rattle.opcodes.specs.declared.Command.the-variants.{Unknown, TestUnitReady, Rewind, RequestSense, Read, Write, WriteFilemarks, Space, Inquiry}
 use Rattle.opcodes.specs.declared.Command.the-variants.{ModeSelect, ModeSense, LoadUnload, Locate, ReadPosition, PreventAllow}
@@ -28,12 +28,12 @@ use Rattle.packet_state.proofs.RecordLaws.{ruly-of}
 use Rattle.packet_parts.specs.declared.requests.Request.{Request}
 use Rattle.packet_parts.specs.Answers.{Left, done}
 use Rattle.packet_parts.specs.Shell.{foundBy, carriedOut}
-use Rattle.stream_parts.specs.Requests.{requestOf, spaceCode, overFilemarks, toEndOfData}
+use Rattle.stream_parts.specs.Requests.{requestOf, spaceCode, overFilemarks}
 use Rattle.stream.specs.Packet.{streamDevice, packetStep}
 use Rattle.stream.specs.Work.{spaceRun, spaceEnds, spaceWork, workOf}
 use Rattle.packet_laws.specs.Words.{numberOf, blocksOf, Passes}
 use Rattle.packet_laws.proofs.Ways.{step-passed}
-use Rattle.stream_laws.specs.Words.{storesOn, stores}
+use Rattle.stream_laws.specs.Words.{storesOn}
 use Rattle.stream_laws.proofs.Leaving.{accepted-leaves}
 use Rattle.stream_laws.proofs.Refusals.{refused-keeps}
 use Rattle.stream_laws.proofs.Storing.{none-stored}

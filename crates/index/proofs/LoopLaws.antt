@@ -7,13 +7,13 @@ use Prim.Native.Nat.{ℕ, zero, suc, _+_, _*_, _-_, _<_, _≤_}
 use native.Mathlib.Omega.{arith}
 use borrow.Author.Tests.{lt-ltb, le-ltb, ltb-true, ltb-false, leb-true, leb-false, eq-eqb, ne-eqb}
 use lib.Dec.{eqb, ltb, leb}
-use lib.ListN.{length, replicate, length-replicate}
+use lib.ListN.{length, replicate}
 use Rattle.numbers.specs.Choice.{if_then_else_}
 use Rattle.numbers.specs.Counts.{putCount, countBytes}
 use Rattle.numbers.specs.Over.{over}
 use Rattle.numbers.proofs.Cases.{test}
 use Rattle.numbers.proofs.CountLaws.{bytes-length, put-count-over, length-put-count}
-use Rattle.numbers.proofs.OverLaws.{over-more, over-none, over-length}
+use Rattle.numbers.proofs.OverLaws.{over-more, over-none}
 use Rattle.image.specs.declared.elements.Kind.{Kind}
 use Rattle.image.specs.Elements.{isFilemark, kindAt}
 use Rattle.index.specs.declared.checking.Compared.{Compared}

@@ -1,22 +1,22 @@
 -- Refusals, the packet without the index, and that every outcome is settled.
 -- Assumes nothing.
-use Prim.Native.Nat.{ℕ, _<_}
+use Prim.Native.Nat.{ℕ}
 use mathlib.Core.Bool.{true, false, true≢false}
 use mathlib.Core.List.{List}
 use mathlib.Core.Path.{_≡_, refl, sym, ap, _∙_, subst}
 use native.Mathlib.Omega.{arith}
-use Rattle.numbers.proofs.SameLaws.{same-of, same-self}
-use Rattle.image.specs.Header.{fieldsOf, keepsHeaderRules}
+use Rattle.numbers.proofs.SameLaws.{same-self}
+use Rattle.image.specs.Header.{fieldsOf}
 use Rattle.image.proofs.HeaderLaws.{good-header}
 use Rattle.packet_state.specs.declared.state.State.{State}
-use Rattle.packet_parts.specs.Answers.{Left, refusal}
+use Rattle.packet_parts.specs.Answers.{refusal}
 use Rattle.packet_parts.specs.Shell.{refuses}
-use Rattle.stream.specs.Packet.{streamDevice, packetStep}
-use Rattle.packet_laws.specs.Words.{numberOf, Refusal, Due, Passes}
+use Rattle.stream.specs.Packet.{packetStep}
+use Rattle.packet_laws.specs.Words.{numberOf, Refusal}
 use Rattle.stream_laws.proofs.Leaving.{outcomeOf}
 use Rattle.stream_laws.proofs.Refusals as packet-alone
 use Rattle.index.specs.Entries.{freshIndex, isFresh}
-use Rattle.index.specs.Keeping.{shortIndex, staleIndex, Made, makes, Indexed, indexedStep}
+use Rattle.index.specs.Keeping.{shortIndex, staleIndex, Made, Indexed}
 use Rattle.index.proofs.KeepLaws.{fresh-stays}
 use Rattle.index.proofs.SpaceLaws.{run-is}
 use Rattle.index_laws.specs.Demands.{RefusedKeeps, NumberExactly, SameAsPacket, SpaceAgrees, Settled}

@@ -2,13 +2,11 @@
 -- Assumes nothing.
 use Prim.Native.Nat.{ℕ, _+_, _*_, _-_, _≤_, _<_}
 use mathlib.Core.Bool.{true}
-use mathlib.Core.List.{List, _++_, append-assoc}
+use mathlib.Core.List.{List, _++_}
 use mathlib.Core.Path.{_≡_, refl, sym, ap, _∙_}
-use native.Mathlib.Nat.{le-refl}
 use native.Mathlib.Omega.{arith}
-use lib.ListN.{length, getD, take, drop, replicate, List·getD-append, length-append}
+use lib.ListN.{length, getD, drop, replicate, List·getD-append, length-append}
 use lib.Seq.{take-at, drop-append-seam}
-use Rattle.numbers.specs.Over.{over, part}
 use Rattle.numbers.proofs.OverLaws.{over-above, over-length}
 use Rattle.image.specs.declared.header.Header.{Header}
 use Rattle.image.specs.declared.header.Judged.the-variants.{Good}
@@ -16,14 +14,13 @@ use Rattle.image.specs.Header.{fieldsOf, keepsHeaderRules, headerOf, withRecord
 use Rattle.image.proofs.HeaderLaws.{fields-are, keeps-of, good-header}
 use Rattle.packet_state.specs.declared.state.State.{State}
 use Rattle.packet_state.proofs.RecordLaws.{ruly-of}
-use Rattle.stream.specs.Packet.{packetStep}
 use Rattle.packet_laws.specs.Words.{numberOf}
 use Rattle.stream_laws.proofs.Leaving.{accepted-leaves}
 use Rattle.index.specs.Entries.{marksFrom, noFilemark, entriesOf, entryBytes, indexLength, freshIndex, isFresh}
-use Rattle.index.specs.Keeping.{Made, makes, Indexed, indexedStep}
+use Rattle.index.specs.Keeping.{Made, Indexed, indexedStep}
 use Rattle.index.proofs.CheckLaws.{entries-count}
 use Rattle.index.proofs.EntryLaws.{entries-length, entries-append}
-use Rattle.index.proofs.FreshLaws.{parted, entries-parted}
+use Rattle.index.proofs.FreshLaws.{entries-parted}
 use Rattle.index.proofs.KeepLaws.{fresh-stays}
 use Rattle.index.proofs.MarkLaws.{marks-same}
 use Rattle.index.proofs.RewriteLaws.{fresh-is}

@@ -1,14 +1,14 @@
 -- What an index that was made tells its reader.
 -- Assumes nothing.
-use Prim.Native.Nat.{ℕ, zero, suc, _+_, _*_, _-_, _≤_, _<_}
+use Prim.Native.Nat.{ℕ, zero, suc, _+_, _-_, _≤_, _<_}
 use mathlib.Core.Bool.{Bool, true, false, false≢true}
-use mathlib.Core.List.{List, [], _∷_, _++_}
+use mathlib.Core.List.{List, [], _++_}
 use mathlib.Core.Path.{_≡_, refl, sym, ap, _∙_}
 use native.Mathlib.Nat.{le-refl}
 use native.Mathlib.Omega.{arith}
-use borrow.Author.Tests.{eqb-true, eqb-false, eq-eqb, ne-eqb}
+use borrow.Author.Tests.{eqb-true, eqb-false}
 use lib.Dec.{eqb}
-use lib.ListN.{length, getD, replicate, length-append, length-replicate, getD-replicate}
+use lib.ListN.{length, getD, replicate, length-replicate, getD-replicate}
 use Rattle.numbers.specs.Member.{isIn}
 use Rattle.numbers.proofs.Cases.{test, or-by, or-r}
 use Rattle.image.specs.declared.elements.Kind.{Kind}
@@ -16,10 +16,10 @@ use Rattle.image.specs.declared.elements.Kind.the-variants.{Data, Filemark, Unr
 use Rattle.image.specs.Elements.{isFilemark, kindAt}
 use Rattle.image.specs.Header.{fieldsOf, keepsHeaderRules}
 use Rattle.image.proofs.HeaderLaws.{good-header}
-use Rattle.index.specs.Entries.{marksFrom, filemarksOf, noFilemark, indexLength, freshIndex, isFresh}
+use Rattle.index.specs.Entries.{marksFrom, filemarksOf, noFilemark, freshIndex}
 use Rattle.index.specs.Keeping.{Made, makes}
 use Rattle.index.specs.Spacing.{entryAt}
-use Rattle.index.proofs.FreshLaws.{parted, fresh-parted, entry-is, entry-before, parted-length, one-of-two}
+use Rattle.index.proofs.FreshLaws.{fresh-parted, entry-is, entry-before, parted-length, one-of-two}
 use Rattle.index.proofs.MarkLaws.{withPlace, marks-none, marks-first, marks-within}
 use Rattle.index_laws.specs.Demands.{ListsFilemarks}
 use Rattle.index_laws.proofs.Keeping.{fresh-again}

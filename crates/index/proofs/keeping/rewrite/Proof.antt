@@ -1,6 +1,5 @@
 -- `keeping::rewrite` meets its contract.
 -- Assumes nothing.
-use native.Mathlib.Omega.{arith}
 use borrow.Author.Needs.{needs}
 use Rattle.index.specs.Rewriting.{rewritten}
 use Rattle.index.proofs.keeping.rewrite.Statement.{statement}
