@@ -5,6 +5,8 @@ pub mod BytesKept
 pub mod PulseFollowing
 pub mod PacketFollowing
 pub mod PacketBytes
+pub mod IndexFollowing
+pub mod IndexBytes
 pub mod FloppyFollowing
 pub mod FloppyBytes
 pub mod Locking

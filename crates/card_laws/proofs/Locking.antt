@@ -11,6 +11,7 @@ use Rattle.opcodes.specs.declared.Command.the-variants.{PreventAllow}
 use Rattle.opcodes.specs.Commands.{Supported, streamCommands, floppyCommands, lookUp, streamCommand, floppyCommand}
 use Rattle.opcodes.proofs.Classes.{classOf, under, only-under}
 use Rattle.packet_state.specs.declared.state.State.{State}
+use Rattle.packet_parts.specs.Answers.{Left}
 use Rattle.packet_parts.specs.Requests.{requestUnder, preventBit}
 use Rattle.packet_record.specs.PacketRecord.{decodeState}
 use Rattle.stream_parts.specs.Requests.{requestOf}
@@ -18,11 +19,13 @@ use Rattle.floppy_parts.specs.declared.tape.Floppy.{Floppy}
 use Rattle.floppy_parts.specs.Requests.{floppyRequest}
 use Rattle.floppy_record.specs.FloppyRecord.{decodeFloppy}
 use Rattle.tapecard.specs.FloppyCalls.{floppyChangeCall, floppyPacketCall}
-use Rattle.tapecard.specs.PacketCalls.{packetChange, packetCall}
+use Rattle.tapecard.specs.IndexCalls.{indexedLeft, indexPacketCall}
+use Rattle.tapecard.specs.PacketCalls.{packetChange, packetLeft, packetCall}
 use Rattle.stream_laws.proofs.Locking.{locked-stays}
 use Rattle.floppy_laws.proofs.Locking.{changed-by, lock-starts, locked-stays as floppy-stays}
-use Rattle.card_laws.specs.Promises.{LockedIn, Allows, CardLockedStays}
+use Rattle.card_laws.specs.Promises.{Bytes, LockedIn, Allows, CardLockedStays}
 use Rattle.card_laws.proofs.PacketFollowing.{packet-follows}
+use Rattle.card_laws.proofs.IndexFollowing.{left-by}
 use Rattle.card_laws.proofs.FloppyFollowing.{floppy-follows}
 
 -- 1Eh is the one byte under which a device's list has the lock
@@ -42,14 +45,26 @@ spelled : (state : List ℕ) (st : State) → decodeState state ≡ st → st .l
 unfolding decodeState
 spelled state st e l k = (ap (λ (x : State). x .loaded) e ∙ l, ap (λ (x : State). x .locked) e ∙ k)
 
+packet-locked : (state image packet buf : List ℕ) → Bytes packet → (Allows packet → ⊥) → LockedIn state → LockedIn (packetCall state image packet buf .state)
+unfolding decodeState
+packet-locked state image packet buf b n h =
+    let st = decodeState state in
+    spelled (packetCall state image packet buf .state) _ (packet-follows .packet state image packet buf b)
+    (locked-stays .loaded image st packet buf (h .1) (h .0)) (locked-stays .locked image st packet buf (h .1) (λ w c p. n (stream-allows packet c p)))
+
+index-locked : (state image index packet buf : List ℕ) → Bytes packet → (Allows packet → ⊥) → LockedIn state
+    → LockedIn (indexPacketCall state image index packet buf .card .state)
+unfolding indexPacketCall indexedLeft packetCall packetLeft
+index-locked state image index packet buf b n h =
+    left-by image index (decodeState state) packet buf (λ (x : Left State). LockedIn (packetLeft state x .state)) h h
+    (packet-locked state image packet buf b n h)
+
 pub card-locked-stays : CardLockedStays
 unfolding decodeState decodeFloppy
 card-locked-stays =
     record {
-      packet = λ state image packet buf b n h.
-          let st = decodeState state in
-          spelled (packetCall state image packet buf .state) _ (packet-follows .packet state image packet buf b)
-          (locked-stays .loaded image st packet buf (h .1) (h .0)) (locked-stays .locked image st packet buf (h .1) (λ w c p. n (stream-allows packet c p)));
+      packet = packet-locked;
+      index-packet = index-locked;
       change = λ state b h. spelled (packetChange state) _ (packet-follows .change state b) refl (h .1);
       floppy-packet = λ state image packet buf a b c n h.
           let f = decodeFloppy state in

@@ -5,6 +5,7 @@ use mathlib.Core.Bool.{true, false}
 use mathlib.Core.List.{List, map}
 use Prim.Native.Nat.{ℕ, _^_, _<_, _≤_}
 use lib.ListN.{getD}
+use Rattle.packet_state.specs.declared.state.Answer.{Answer}
 use Rattle.packet_state.specs.declared.state.State.{State}
 use Rattle.pulse_codes.specs.declared.arguments.Waiting.{Waiting}
 use Rattle.pulse_codes.specs.declared.arguments.Waiting.the-variants.{Nothing, For}
@@ -28,6 +29,8 @@ use Rattle.floppy.specs.Packet.{freshFloppy, changedFloppy, floppyStep}
 use Rattle.floppy_record.specs.FloppyRecord.{decodeFloppy, decodeTape, encodeFloppy}
 use Rattle.tapecard.specs.PacketCalls.{packetCard, packetFresh, packetChange, packetCall}
 use Rattle.tapecard.specs.PacketCalls.{PacketFreshPromise, PacketChangePromise, PacketCallPromise}
+use Rattle.index.specs.Keeping.{makes, indexedStep, shortIndex, staleIndex}
+use Rattle.tapecard.specs.IndexCalls.{indexCard, indexMakeCall, indexPacketCall, IndexMakePromise, IndexCallPromise}
 use Rattle.tapecard.specs.FloppyCalls.{floppyCard, floppyFreshCall, floppyChangeCall, floppyPacketCall}
 use Rattle.tapecard.specs.FloppyCalls.{FloppyFreshPromise, FloppyChangePromise, FloppyCallPromise}
 use Rattle.pulse_record.specs.PulseRecord.{decodeDrive, encodeDrive, describedCartridge, describedPlace}
@@ -44,6 +47,13 @@ abbrev pub PacketRefusedUntouched : Type 0
 PacketRefusedUntouched =
     (state image packet buf : List ℕ) → Refused (packetCall state image packet buf .answer)
     → packetCall state image packet buf ≡ packetCard state image buf (packetCall state image packet buf .answer)
+
+-- 02, A4: the index buffer too; the making of an index only reads its image
+pub record IndexRefusedUntouched : Type 0 where
+  pub make : (image index : List ℕ) → Refused (indexMakeCall image index .answer) → indexMakeCall image index .index ≡ index
+  pub packet : (state image index packet buf : List ℕ) → Refused (indexPacketCall state image index packet buf .card .answer)
+      → indexPacketCall state image index packet buf
+      ≡ indexCard (packetCard state image buf (indexPacketCall state image index packet buf .card .answer)) index
 
 -- the fresh record and the cartridge change only read their image
 pub record FloppyRefusedUntouched : Type 0 where
@@ -136,6 +146,12 @@ pub record PacketFollows : Type 0 where
   pub packet : (state image packet buf : List ℕ) → Bytes packet
       → decodeState (packetCall state image packet buf .state) ≡ packetStep image (decodeState state) packet buf .state
 
+-- and so with an index beside it
+abbrev pub IndexFollows : Type 0
+IndexFollows =
+    (state image index packet buf : List ℕ) → Bytes packet
+    → decodeState (indexPacketCall state image index packet buf .card .state) ≡ indexedStep image index (decodeState state) packet buf .left .state
+
 -- a list of 28 bytes, in the buffer, sets the tape parameters
 pub record FloppyFollows : Type 0 where
   pub fresh : (state image : List ℕ) → decodeFloppy (floppyFreshCall state image .state) ≡ freshFloppy image (decodeFloppy state) .state
@@ -169,6 +185,14 @@ pub record PacketStaysBytes : Type 0 where
   pub packet : (state image packet buf : List ℕ) → Bytes state → Bytes (packetCall state image packet buf .state)
   pub answer : (state image packet buf : List ℕ) → Bytes (packetCall state image packet buf .answer)
 
+-- and so with an index beside it, which is bytes again
+pub record IndexStaysBytes : Type 0 where
+  pub make : (image index : List ℕ) → Bytes index → Bytes (indexMakeCall image index .index)
+  pub make-answer : (image index : List ℕ) → Bytes (indexMakeCall image index .answer)
+  pub packet : (state image index packet buf : List ℕ) → Bytes state → Bytes (indexPacketCall state image index packet buf .card .state)
+  pub index : (state image index packet buf : List ℕ) → Bytes index → Bytes (indexPacketCall state image index packet buf .index)
+  pub answer : (state image index packet buf : List ℕ) → Bytes (indexPacketCall state image index packet buf .card .answer)
+
 pub record FloppyStaysBytes : Type 0 where
   pub fresh : (state image : List ℕ) → Bytes state → Bytes (floppyFreshCall state image .state)
   pub change : (state image : List ℕ) → Bytes state → Bytes (floppyChangeCall state image .state)
@@ -200,6 +224,18 @@ CardRecoversAtAnyPace =
     → keepsRules (decodeDrive state) ≡ true → decodeDrive state .marks .inside ≡ true → silentTicks (decodeDrive state) ≤ k
     → BytesRegained pauses state (ticksOn k state) (pacedOn pauses (ticksOn k state) recoveryTrains)
 
+-- ---- 02, A4: "SPACE over filemarks through the index gives the same answer, sense and position as without it.", and so does every other packet: whatever
+-- bytes are given, where the index is not what refuses, record, image, data and answer are those that `tapecard_packet` leaves
+
+-- the number is neither 9 nor 10
+abbrev pub IndexPasses : List ℕ → Type 0
+IndexPasses answer = (getD answer 0 0 ≡ shortIndex → ⊥) × (getD answer 0 0 ≡ staleIndex → ⊥)
+
+abbrev pub CardSameAsPacket : Type 0
+CardSameAsPacket =
+    (state image index packet buf : List ℕ) → IndexPasses (indexPacketCall state image index packet buf .card .answer)
+    → indexPacketCall state image index packet buf .card ≡ packetCall state image packet buf
+
 -- ---- 02, A8, on the bytes themselves: a cartridge that is locked in stays in, whatever is sent, until it is allowed out
 
 -- bits 0 and 1 of byte 4: loaded and locked
@@ -213,12 +249,20 @@ Allows packet = (getD packet 0 0 ≡ 0x1e) × (isSet (getD packet 4 0) 1 ≡ fal
 pub record CardLockedStays : Type 0 where
   pub packet : (state image packet buf : List ℕ) → Bytes packet → (Allows packet → ⊥)
       → LockedIn state → LockedIn (packetCall state image packet buf .state)
+  pub index-packet : (state image index packet buf : List ℕ) → Bytes packet → (Allows packet → ⊥)
+      → LockedIn state → LockedIn (indexPacketCall state image index packet buf .card .state)
   pub change : (state : List ℕ) → Bytes state → LockedIn state → LockedIn (packetChange state)
   pub floppy-packet : (state image packet buf : List ℕ) → Bytes state → Bytes packet → Bytes buf → (Allows packet → ⊥)
       → LockedIn state → LockedIn (floppyPacketCall state image packet buf .state)
   pub floppy-change : (state image : List ℕ) → Bytes state → LockedIn state → LockedIn (floppyChangeCall state image .state)
 
--- and no count of an answer is cut: "4-7 blocks; 8-11 bytes; 12-15 .. marked" of a packet, "4-7 ticks" of a wait
+-- and no count of an answer is cut: "4-7 blocks; 8-11 bytes; 12-15 .. marked" of a packet and of an index made, "4-7 ticks" of a wait
+
+-- the three counts of an answer of 16 bytes
+pub record CountsIn (answer : List ℕ) (a : Answer) : Type 0 where
+  pub blocks : countAt answer 4 4 ≡ a .blocks
+  pub bytes : countAt answer 8 4 ≡ a .bytes
+  pub marked : countAt answer 12 4 ≡ a .marked
 
 pub record CountsWhole : Type 0 where
   pub blocks : (state image packet buf : List ℕ) → Bytes packet
@@ -227,6 +271,9 @@ pub record CountsWhole : Type 0 where
       → countAt (packetCall state image packet buf .answer) 8 4 ≡ bytesOf (packetStep image (decodeState state) packet buf)
   pub marked : (state image packet buf : List ℕ) → Bytes packet
       → countAt (packetCall state image packet buf .answer) 12 4 ≡ markedOf (packetStep image (decodeState state) packet buf)
+  pub index-make : (image index : List ℕ) → CountsIn (indexMakeCall image index .answer) (makes image index .answer)
+  pub index-packet : (state image index packet buf : List ℕ) → Bytes packet
+      → CountsIn (indexPacketCall state image index packet buf .card .answer) (indexedStep image index (decodeState state) packet buf .left .answer)
   pub floppy-blocks : (state image packet buf : List ℕ) → Bytes packet
       → countAt (floppyPacketCall state image packet buf .answer) 4 4 ≡ blocksOf (floppyStep image (decodeFloppy state) packet buf)
   pub floppy-bytes : (state image packet buf : List ℕ) → Bytes packet
@@ -241,6 +288,8 @@ pub record Settled : Type 0 where
   pub fresh : Settles PacketFreshPromise
   pub change : (state : List ℕ) → Settles (PacketChangePromise state)
   pub packet : (state image packet buf : List ℕ) → Settles (PacketCallPromise state image packet buf)
+  pub index-make : (image index : List ℕ) → Settles (IndexMakePromise image index)
+  pub index-packet : (state image index packet buf : List ℕ) → Settles (IndexCallPromise state image index packet buf)
   pub floppy-fresh : (state image : List ℕ) → Settles (FloppyFreshPromise state image)
   pub floppy-change : (state image : List ℕ) → Settles (FloppyChangePromise state image)
   pub floppy-packet : (state image packet buf : List ℕ) → Settles (FloppyCallPromise state image packet buf)

@@ -5,11 +5,13 @@ use mathlib.Core.Bool.{Bool}
 use mathlib.Core.List.{List}
 use Prim.Native.Nat.{ℕ}
 use borrow.Author.Tests.{eq-eqb, ne-eqb}
+use Rattle.packet_state.specs.declared.state.Answer.{Answer}
 use Rattle.packet_state.specs.declared.state.Outcome.{Outcome}
 use Rattle.packet_state.specs.declared.state.State.{State}
 use Rattle.packet_state.specs.States.{freshState, changedState}
 use Rattle.packet_parts.specs.Answers.{done}
 use Rattle.stream.specs.Packet.{packetStep}
+use Rattle.index.specs.Keeping.{made, makes, indexed, indexedStep}
 use Rattle.floppy_parts.specs.declared.tape.Floppy.{Floppy}
 use Rattle.floppy_parts.specs.declared.tape.FloppyOutcome.{FloppyOutcome}
 use Rattle.floppy_parts.specs.Tape.{leaves}
@@ -22,7 +24,8 @@ use Rattle.pulse.specs.Drives.{powerOn}
 use Rattle.pulse.specs.Calls.{trainCall, tickCall, insertCall, removeCall, waitCall}
 use Rattle.pulse_parts.specs.declared.cartridge.Cartridge.{Cartridge}
 use Rattle.packet_record.specs.PacketRecord.{decodeState, encodeState, encodeAnswer}
-use Rattle.tapecard.specs.PacketCalls.{packetCard, packetFresh, packetChange, packetLeft, packetCall}
+use Rattle.tapecard.specs.PacketCalls.{PacketCard, OutcomeLeft, packetCard, packetFresh, packetChange, packetLeft, packetCall}
+use Rattle.tapecard.specs.IndexCalls.{indexTold, indexCard, madeLeft, indexedLeft, indexMakeCall, indexPacketCall}
 use Rattle.tapecard.specs.FloppyCalls.{FloppyTold, floppyCard, floppyTold, floppyLeft, floppyPacketLeft}
 use Rattle.tapecard.specs.FloppyCalls.{floppyFreshCall, floppyChangeCall, floppyPacketCall}
 use Rattle.pulse_record.specs.PulseRecord.{decodeDrive, encodeDrive, encodeTold, describedCartridge, describedPlace}
@@ -39,16 +42,30 @@ pub change-left : (s new : List ℕ) (old st : State) → old ≡ decodeState s 
 unfolding packetChange
 change-left s new old st q p e = rw (e, p, q)
 
-module _ (s image packet buf : List ℕ) (st : State) (o : Outcome) (image' buf' answer : List ℕ)
-    (q : st ≡ decodeState s) (e : done o image' buf' ≡ packetStep image st packet buf) (w : answer ≡ encodeAnswer (o .answer)) where
-  pub packet-kept : (o .answer .number ≡ 0 → ⊥) → packetCard s image' buf' answer ≡ packetCall s image packet buf
-  unfolding packetCall packetLeft
-  packet-kept n = rw (w, ← q, ← e, ne-eqb _ _ n)
+module _ (s answer : List ℕ) (o : Outcome) (w : answer ≡ encodeAnswer (o .answer)) where
+  pub packet-kept : (o .answer .number ≡ 0 → ⊥) → OutcomeLeft s o s answer
+  unfolding packetLeft
+  packet-kept n image buf = rw (w, ne-eqb _ _ n)
 
-  pub packet-written : (new : List ℕ) → o .answer .number ≡ 0 → new ≡ encodeState (o .state) →
-      packetCard new image' buf' answer ≡ packetCall s image packet buf
-  unfolding packetCall packetLeft
-  packet-written new n f = rw (f, w, ← q, ← e, n)
+  pub packet-written : (new : List ℕ) → o .answer .number ≡ 0 → new ≡ encodeState (o .state) → OutcomeLeft s o new answer
+  unfolding packetLeft
+  packet-written new n f image buf = rw (f, w, eq-eqb _ _ n)
+
+module _ (s image packet buf : List ℕ) (st : State) (o : Outcome) (s' image' buf' answer : List ℕ)
+    (q : st ≡ decodeState s) (l : OutcomeLeft s o s' answer) where
+  pub packet-left : done o image' buf' ≡ packetStep image st packet buf → packetCard s' image' buf' answer ≡ packetCall s image packet buf
+  unfolding packetCall
+  packet-left e = rw (← q, ← e) (l image' buf')
+
+  pub index-packet-left : (index index' : List ℕ) → indexed (done o image' buf') index' ≡ indexedStep image index st packet buf
+      → indexCard (packetCard s' image' buf' answer) index' ≡ indexPacketCall s image index packet buf
+  unfolding indexPacketCall indexedLeft
+  index-packet-left index index' e = rw (← q, ← e) (ap (λ (x : PacketCard). indexCard x index') (l image' buf'))
+
+pub index-make-left : (image index index' answer : List ℕ) (r : Answer) → made r index' ≡ makes image index → answer ≡ encodeAnswer r
+    → indexTold index' answer ≡ indexMakeCall image index
+unfolding indexMakeCall madeLeft
+index-make-left image index index' answer r e w = rw (← e) (ap (λ (x : List ℕ). indexTold index' x) w)
 
 -- ---- the floppy tape device
 
@@ -120,6 +137,9 @@ pub ruleset ways = (
   change-left,
   packet-kept,
   packet-written,
+  packet-left,
+  index-packet-left,
+  index-make-left,
   floppy-kept,
   floppy-written,
   floppy-fresh-left,

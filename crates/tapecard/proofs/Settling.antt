@@ -5,6 +5,7 @@ use Prim.Native.Nat.{ℕ}
 use Rattle.numbers.specs.Outcomes.{Settles}
 use Rattle.numbers.proofs.Cases.{settles}
 use Rattle.tapecard.specs.PacketCalls.{PacketCallPromise, PacketChangePromise, PacketFreshPromise, packetCall, packetChange, packetFresh}
+use Rattle.tapecard.specs.IndexCalls.{IndexCallPromise, IndexMakePromise, indexMakeCall, indexPacketCall}
 use Rattle.tapecard.specs.FloppyCalls.{FloppyCallPromise, FloppyChangePromise, FloppyFreshPromise}
 use Rattle.tapecard.specs.FloppyCalls.{floppyChangeCall, floppyFreshCall, floppyPacketCall}
 use Rattle.tapecard.specs.PulseCalls.{PulseInsertPromise, PulsePowerOnPromise, PulseRemovePromise}
@@ -19,6 +20,12 @@ change-settled state = settles (packetChange state)
 
 pub packet-settled : (state image packet buf : List ℕ) → Settles (PacketCallPromise state image packet buf)
 packet-settled state image packet buf = settles (packetCall state image packet buf)
+
+pub index-make-settled : (image index : List ℕ) → Settles (IndexMakePromise image index)
+index-make-settled image index = settles (indexMakeCall image index)
+
+pub index-packet-settled : (state image index packet buf : List ℕ) → Settles (IndexCallPromise state image index packet buf)
+index-packet-settled state image index packet buf = settles (indexPacketCall state image index packet buf)
 
 pub floppy-fresh-settled : (state image : List ℕ) → Settles (FloppyFreshPromise state image)
 floppy-fresh-settled state image = settles (floppyFreshCall state image)

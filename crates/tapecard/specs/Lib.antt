@@ -1,3 +1,4 @@
 pub mod PacketCalls
+pub mod IndexCalls
 pub mod FloppyCalls
 pub mod PulseCalls

@@ -4,9 +4,10 @@ use Prim.Native.Nat.{ℕ}
 use mathlib.Core.List.{List}
 use mathlib.Core.Path.{_≡_}
 use Rattle.numbers.specs.Choice.{if_then_else_, _≡ᵇ_}
+use Rattle.packet_state.specs.declared.state.Outcome.{Outcome}
 use Rattle.packet_state.specs.declared.state.State.{State}
 use Rattle.packet_state.specs.States.{freshState, changedState}
-use Rattle.packet_parts.specs.Answers.{Left}
+use Rattle.packet_parts.specs.Answers.{Left, done}
 use Rattle.stream.specs.Packet.{packetStep}
 use Rattle.packet_record.specs.PacketRecord.{decodeState, encodeState, encodeAnswer}
 
@@ -35,6 +36,10 @@ packetLeft state x =
     (x .image)
     (x .buf)
     (encodeAnswer (x .answer))
+
+-- what an outcome leaves of record and answer, with any image and buffer beside them
+abbrev pub OutcomeLeft : List ℕ → Outcome → List ℕ → List ℕ → Type 0
+OutcomeLeft state out state' answer = (image buf : List ℕ) → packetCard state' image buf answer ≡ packetLeft state (done out image buf)
 
 -- all that `tapecard_packet` leaves: record, image, buffer, answer
 unfoldable pub packetCall : List ℕ → List ℕ → List ℕ → List ℕ → PacketCard

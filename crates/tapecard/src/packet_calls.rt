@@ -1,8 +1,21 @@
 // The calls of the packet drive.
-ghost use Rattle.tapecard.specs.PacketCalls.{packetCard, PacketFreshPromise, PacketChangePromise, PacketCallPromise};
+ghost use Rattle.tapecard.specs.PacketCalls.{packetCard, OutcomeLeft, PacketFreshPromise, PacketChangePromise, PacketCallPromise};
 use packet_record::decode_state;
 use packet_record::encode_answer;
 use packet_record::encode_state;
+use packet_state::state::Outcome;
+
+// A refused packet leaves the record as it was; the answer is always written.
+pub fn leave(state: &mut [u8; 16], answer: &mut [u8; 16], outcome: Outcome)
+    ensures { λ _. ⌜ OutcomeLeft (now (state .entry)) outcome (now (state .exit)) (now (answer .exit)) ⌝ }
+{
+    let told = outcome.answer;
+    let after = outcome.state;
+    *answer = encode_answer(told);
+    if told.number == 0 {
+        *state = encode_state(after);
+    }
+}
 
 #[no_mangle]
 pub extern "C" fn tapecard_fresh(state: &mut [u8; 16])
@@ -32,10 +45,5 @@ pub extern "C" fn tapecard_packet(
 {
     let before = decode_state(state);
     let outcome = stream::packet(image, before, packet, buf);
-    let told = outcome.answer;
-    let after = outcome.state;
-    *answer = encode_answer(told);
-    if told.number == 0 {
-        *state = encode_state(after);
-    }
+    leave(state, answer, outcome);
 }

@@ -17,15 +17,6 @@ same-length-2 c = search needs
 returns : tie.Need-returns
 returns c = search ways
 
-same-length-3 : tie.Need-same-length-3
-same-length-3 c = search needs
-
-same-length-4 : tie.Need-same-length-4
-same-length-4 c = search needs
-
-returns-2 : tie.Need-returns-2
-returns-2 c = search ways
-
 pub tapecard-packet-spec : {M : Type 1} → statement M
 tapecard-packet-spec =
     tie.close
@@ -33,10 +24,6 @@ tapecard-packet-spec =
     decode-state-requires
     (λ c κs. tt)
     (λ c κs. tt)
-    (λ c κs. tt)
     same-length
     same-length-2
-    returns
-    same-length-3
-    same-length-4
-    returns-2)
+    returns)
