@@ -6,7 +6,7 @@
  *
  * A caller must give three things, which no proof can see:
  * 1. Pointers that are valid for as many bytes as their length says, and valid also where that is 0.
- * 2. Buffers that do not overlap: record, image, packet, data, answer and cartridge of one call are apart.
+ * 2. Buffers that do not overlap: record, image, index, packet, data, answer and cartridge of one call are apart.
  * 3. Lengths that are true: who says 12 where 11 bytes came is protected by nothing; who says 11 is refused with 1.
  *
  * Beyond these:
@@ -37,6 +37,8 @@ extern "C" {
 #define TAPECARD_REFUSED_CARTRIDGE 6    /* cartridge description outside its ranges */
 #define TAPECARD_REFUSED_INSERTION 7    /* insertion with a cartridge in, or removal with none */
 #define TAPECARD_REFUSED_PULSE_RECORD 8 /* pulse record breaks the record rules */
+#define TAPECARD_REFUSED_INDEX_LENGTH 9 /* index buffer is shorter than four times the capacity */
+#define TAPECARD_REFUSED_INDEX 10       /* index differs from a fresh one: make it afresh */
 
 /* ---- The cartridge image: a header, a table of kinds, the blocks ---- */
 
@@ -123,6 +125,26 @@ void tapecard_change(uint8_t record[TAPECARD_PACKET_RECORD_LENGTH]);
 void tapecard_packet(uint8_t record[TAPECARD_PACKET_RECORD_LENGTH], uint8_t *image, size_t image_length,
                      const uint8_t *packet, size_t packet_length, uint8_t *data, size_t data_length,
                      uint8_t answer[TAPECARD_PACKET_ANSWER_LENGTH]);
+
+/* ---- The packet drive: the stream device with a filemark index, a second lent buffer of 4*C bytes or more ---- */
+
+#define TAPECARD_INDEX_ENTRY_LENGTH 4         /* bytes of an entry: the place of a filemark below U, ascending */
+#define TAPECARD_INDEX_NO_FILEMARK 0xFFFFFFFF /* the entries behind the last filemark, up to 4*C bytes; bytes beyond stay */
+
+/*
+ * Makes the index of an image, which is only read. The answer: blocks are the filemarks found, bytes 4*C. Refused with 2 or 9, the
+ * index stays as it was.
+ */
+void tapecard_index_make(const uint8_t *image, size_t image_length, uint8_t *index, size_t index_length,
+                         uint8_t answer[TAPECARD_PACKET_ANSWER_LENGTH]);
+
+/*
+ * Answers one packet as tapecard_packet does and keeps the index that of the image; SPACE over filemarks goes by its entries alone.
+ * Refused with 9 or 10, after 1, 2 and 3 and whichever packet it is, where the index is too short or not that of the image.
+ */
+void tapecard_index_packet(uint8_t record[TAPECARD_PACKET_RECORD_LENGTH], uint8_t *image, size_t image_length,
+                           uint8_t *index, size_t index_length, const uint8_t *packet, size_t packet_length,
+                           uint8_t *data, size_t data_length, uint8_t answer[TAPECARD_PACKET_ANSWER_LENGTH]);
 
 /* ---- The packet drive: the floppy device, blocks by number over an image with U = C ---- */
 

@@ -1,6 +1,6 @@
 #!/usr/bin/env bash
-# A walk through the drive card in under a minute: glyphs on a tape and back, a READ that stops, one near the end of tape, a speed
-# set, a locked door, a cut packet, a glyph redrawn in place, a marked header block, a lost drive.
+# A walk through the drive card in under a minute: glyphs on a tape and back, a list for the label printer, a READ that stops, one
+# near the end of tape, a speed set, a locked door, a cut packet, a glyph redrawn in place, a marked header block, a lost drive.
 # Run by `make demo`, after the archive and the command are built. TAPECARD may name another build of the command.
 set -euo pipefail
 cd "$(dirname "$0")/.."
@@ -59,6 +59,10 @@ run get scripts.img 2 -o ogham.back
 cmp thai.glyphs thai.back
 cmp ogham.glyphs ogham.back
 echo "both files are the same, byte for byte"
+
+heading "The label printer is told where each script starts, by the index of filemarks, and no block is read for it"
+run labels scripts.img
+run labels scripts.img --csv
 
 heading "A READ of 40 blocks stops at the first script's filemark and says how many are missing"
 run_to_check_condition packet scripts.img --out blocks.bin 08 01 00 00 28 00 00 00 00 00 00 00

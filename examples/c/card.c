@@ -1,7 +1,7 @@
 /*
  * The drive card from C: a host that wants the automatic speed sets it, two blocks and a filemark go onto a cartridge in memory
- * behind a locked door and come back, a packet that was cut is refused, the floppy device rewrites a block in place and tells of a
- * marked one, and a pulse drive is recovered by 46 trains.
+ * behind a locked door and come back, a packet that was cut is refused, an index of the filemarks tells where each file starts, the
+ * floppy device rewrites a block in place and tells of a marked one, and a pulse drive is recovered by 46 trains.
  *
  *     cc -std=c99 -Wall -Wextra -Werror -Iinclude examples/c/card.c target/staticlib/libtapecard.a -o card
  */
@@ -16,7 +16,8 @@ enum {
     CAPACITY = 4,
     KINDS_AT = TAPECARD_IMAGE_HEADER_LENGTH,
     BLOCKS_AT = KINDS_AT + CAPACITY,
-    IMAGE_LENGTH = BLOCKS_AT + CAPACITY * BLOCK_SIZE
+    IMAGE_LENGTH = BLOCKS_AT + CAPACITY * BLOCK_SIZE,
+    INDEX_LENGTH = CAPACITY * TAPECARD_INDEX_ENTRY_LENGTH
 };
 
 /* Lent where a packet transfers nothing. */
@@ -27,6 +28,12 @@ struct packet_drive {
     uint8_t record[TAPECARD_PACKET_RECORD_LENGTH];
     uint8_t image[IMAGE_LENGTH];
     uint8_t answer[TAPECARD_PACKET_ANSWER_LENGTH];
+};
+
+/* The same with an index of the cartridge's filemarks. */
+struct indexed_drive {
+    struct packet_drive drive;
+    uint8_t index[INDEX_LENGTH];
 };
 
 /* The same as the floppy device. */
@@ -155,6 +162,67 @@ static void send_cut_packet(struct packet_drive *drive)
     printf("record and image as before: %s\n", yes_or_no(same));
 }
 
+static void make_index(struct indexed_drive *indexed)
+{
+    struct packet_drive *drive = &indexed->drive;
+
+    tapecard_index_make(drive->image, sizeof drive->image, indexed->index, sizeof indexed->index, drive->answer);
+    printf("index of %" PRIu32 " bytes, ", number_at(drive->answer + TAPECARD_ANSWER_BYTES_AT, 4));
+    printf("filemarks %" PRIu32 "\n", number_at(drive->answer + TAPECARD_ANSWER_BLOCKS_AT, 4));
+}
+
+/* As send_packet, with the index, which stays that of the cartridge. Byte 1 is 1: SPACE goes over filemarks. */
+static void send_with_index(struct indexed_drive *indexed, const char *name, uint8_t opcode, uint32_t count, uint8_t *data,
+                            size_t data_length)
+{
+    struct packet_drive *drive = &indexed->drive;
+    uint8_t packet[TAPECARD_PACKET_LENGTH] = {0};
+
+    packet[0] = opcode;
+    packet[1] = 1;
+    put_number(packet + 2, 3, count);
+    tapecard_index_packet(drive->record, drive->image, sizeof drive->image, indexed->index, sizeof indexed->index, packet,
+                          sizeof packet, data, data_length, drive->answer);
+    print_answer(name, drive->record, drive->answer);
+}
+
+/* The first file starts at 0, each other one behind a filemark, where something is recorded there. */
+static void print_starts(const struct indexed_drive *indexed)
+{
+    const uint32_t recorded = number_at(indexed->drive.image + TAPECARD_IMAGE_RECORDED_AT, 4);
+    size_t at;
+
+    printf("files start at 0");
+    for (at = 0; at < sizeof indexed->index; at += TAPECARD_INDEX_ENTRY_LENGTH) {
+        const uint32_t place = number_at(indexed->index + at, TAPECARD_INDEX_ENTRY_LENGTH);
+
+        if (place == TAPECARD_INDEX_NO_FILEMARK)
+            break;
+        if (place + 1 < recorded)
+            printf(", %" PRIu32, place + 1);
+    }
+    printf("\n");
+}
+
+static void use_index(const struct packet_drive *drive)
+{
+    const uint32_t back_1 = 0xFFFFFF; /* -1 in two's complement */
+    uint8_t written[BLOCK_SIZE] = "a second file";
+    struct indexed_drive indexed;
+
+    indexed.drive = *drive;
+    make_index(&indexed);
+    print_starts(&indexed);
+    send_with_index(&indexed, "REWIND", TAPECARD_REWIND, 0, no_data, 0);
+    send_with_index(&indexed, "SPACE 1 filemark", TAPECARD_SPACE, 1, no_data, 0);
+    send_with_index(&indexed, "WRITE 1", TAPECARD_WRITE, 1, written, sizeof written);
+    print_starts(&indexed);
+    indexed.index[0] = 1; /* an index that is not the cartridge's */
+    send_with_index(&indexed, "SPACE -1 filemark", TAPECARD_SPACE, back_1, no_data, 0);
+    make_index(&indexed);
+    send_with_index(&indexed, "SPACE -1 filemark", TAPECARD_SPACE, back_1, no_data, 0);
+}
+
 static void use_packet_drive(void)
 {
     struct packet_drive drive;
@@ -166,6 +234,7 @@ static void use_packet_drive(void)
     set_speed(&drive, 0);
     write_and_read_back(&drive);
     send_cut_packet(&drive);
+    use_index(&drive);
 }
 
 static void send_to_floppy(struct floppy_drive *drive, const char *name, const uint8_t packet[TAPECARD_PACKET_LENGTH],

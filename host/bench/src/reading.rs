@@ -8,24 +8,12 @@ use tapecard::raw;
 
 use crate::purpose;
 use crate::tape::{self, BLOCK_SIZE, BLOCKS, EARLY_WARNING_AT, KINDS, READ, ROOM};
+use crate::timing::{Medians, ROUNDS, Turn, by_turns, tell_ratios};
 
-const ROUNDS: usize = 5;
 const READS: usize = 5000;
 const WARMING_READS: usize = 500;
 
 type Call = fn(&mut [u8; 16], &mut [u8], &[u8], &mut [u8], &mut [u8; 16]);
-
-/// The median times of one READ, in nanoseconds.
-struct Medians {
-    engine: f64,
-    rust: f64,
-}
-
-impl Medians {
-    fn ratio(&self) -> f64 {
-        self.engine / self.rust
-    }
-}
 
 pub fn measure() {
     let mut image = tape::image();
@@ -41,49 +29,29 @@ pub fn measure() {
         show(round, &medians);
         ratios.push(medians.ratio());
     }
-    ratios.sort_by(f64::total_cmp);
-    println!(
-        "ratio: median {:.2}, from {:.2} to {:.2}",
-        ratios[ROUNDS / 2],
-        ratios[0],
-        ratios[ROUNDS - 1]
-    );
+    tell_ratios(ratios);
 }
 
 fn show(round: usize, medians: &Medians) {
-    let speed = ROOM as f64 * 1e3 / medians.engine;
+    let speed = ROOM as f64 * 1e3 / medians.measured;
     println!(
         "{round:>5} {:>11.0} {:>9.0} {speed:>13.0} {:>7.2}",
-        medians.engine,
-        medians.rust,
+        medians.measured,
+        medians.beside,
         medians.ratio()
     );
 }
 
-/// Reads with both, each first in half of the turns.
+/// Reads with both.
 fn time_by_turns(reads: usize, start: &[u8; 16], image: &mut [u8]) -> Medians {
     let mut data = vec![0; ROOM];
-    let mut engine = Vec::with_capacity(reads);
-    let mut rust = Vec::with_capacity(reads);
-    for read in 0..reads {
-        if read % 2 == 0 {
-            engine.push(time_one(raw::packet, start, image, &mut data));
-            rust.push(time_one(by_purpose, start, image, &mut data));
-        } else {
-            rust.push(time_one(by_purpose, start, image, &mut data));
-            engine.push(time_one(raw::packet, start, image, &mut data));
-        }
-    }
-    Medians {
-        engine: median(engine),
-        rust: median(rust),
-    }
-}
-
-/// The median, which other work on the machine hardly moves.
-fn median(mut times: Vec<Duration>) -> f64 {
-    times.sort();
-    times[times.len() / 2].as_secs_f64() * 1e9
+    by_turns(reads, |turn| {
+        let call = match turn {
+            Turn::Measured => raw::packet,
+            Turn::Beside => by_purpose,
+        };
+        time_one(call, start, image, &mut data)
+    })
 }
 
 /// One READ from the beginning of the tape; the clearing is not timed.
@@ -115,7 +83,7 @@ fn by_purpose(
     purpose::packet(record, image, packet, data, answer);
 }
 
-fn record_at_the_beginning(image: &mut [u8]) -> [u8; 16] {
+pub fn record_at_the_beginning(image: &mut [u8]) -> [u8; 16] {
     let mut record = [0; 16];
     raw::fresh(&mut record);
     let mut answer = [0; 16];

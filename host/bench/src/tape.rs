@@ -15,21 +15,27 @@ pub const READ: [u8; 12] = [opcode::READ, 1, 0, 0, BLOCKS as u8, 0, 0, 0, 0, 0, 
 pub const EARLY_WARNING_AT: usize = 23;
 
 /// The kinds of the blocks, none of them marked on the tape that is measured.
-pub const KINDS: Range<usize> = HEADER..HEADER + BLOCKS;
+pub const KINDS: Range<usize> = KINDS_AT..KINDS_AT + BLOCKS;
 
-const HEADER: usize = 32;
+/// Behind the header.
+pub const KINDS_AT: usize = 32;
 
-/// A tape of 64 recorded data blocks, each byte set by its place.
+/// A tape of 64 recorded data blocks.
 pub fn image() -> Vec<u8> {
-    let (kinds_at, blocks_at) = (KINDS.start, KINDS.end);
-    let mut image = vec![0; blocks_at + ROOM];
-    put_word(&mut image, 0, HEADER as u16);
+    image_of(BLOCKS)
+}
+
+/// A tape of so many recorded data blocks, each byte set by its place.
+pub fn image_of(blocks: usize) -> Vec<u8> {
+    let blocks_at = KINDS_AT + blocks;
+    let mut image = vec![0; blocks_at + blocks * BLOCK_SIZE];
+    put_word(&mut image, 0, KINDS_AT as u16);
     put_word(&mut image, 2, BLOCK_SIZE as u16);
-    put_long(&mut image, 4, BLOCKS as u32);
-    put_long(&mut image, 8, BLOCKS as u32);
-    put_long(&mut image, 12, kinds_at as u32);
+    put_long(&mut image, 4, blocks as u32);
+    put_long(&mut image, 8, blocks as u32);
+    put_long(&mut image, 12, KINDS_AT as u32);
     put_long(&mut image, 16, blocks_at as u32);
-    image[KINDS].fill(kind::DATA);
+    image[KINDS_AT..blocks_at].fill(kind::DATA);
     for (place, byte) in image[blocks_at..].iter_mut().enumerate() {
         *byte = (place * 7 + place / BLOCK_SIZE) as u8;
     }

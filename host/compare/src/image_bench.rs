@@ -10,7 +10,7 @@ use tapecard::bytes::{long_at, opcode};
 use crate::{Difference, Guarded, Origin};
 
 /// What an answer holds before a call, to see that the whole of it is written.
-const UNWRITTEN: [u8; 16] = [0x5A; 16];
+pub(crate) const UNWRITTEN: [u8; 16] = [0x5A; 16];
 
 /// The archive's packet call of a device whose record has `RECORD` bytes.
 pub(crate) type EnginePacket<const RECORD: usize> =
@@ -29,7 +29,7 @@ pub(crate) struct Side {
 }
 
 impl Side {
-    fn new(record: &[u8]) -> Side {
+    pub fn new(record: &[u8]) -> Side {
         Side {
             record: Guarded::new(record),
             image: Guarded::new(&[]),
@@ -38,7 +38,7 @@ impl Side {
         }
     }
 
-    fn guards_hold(&self) -> bool {
+    pub fn guards_hold(&self) -> bool {
         let all = [&self.record, &self.image, &self.data, &self.answer];
         all.iter().all(|part| part.guards_hold())
     }
@@ -112,6 +112,43 @@ pub struct PacketSeen {
     pub reads: BTreeMap<(Ending, Marked), u64>,
     /// What was asked of the door, by the record before it (1 loaded, 2 locked, 3 both) and by its ending.
     pub doors: BTreeMap<(DoorAsked, u8, Ending), u64>,
+}
+
+impl PacketSeen {
+    /// Notes a packet by the record before it, the one after it, and its answer.
+    pub(crate) fn note(
+        &mut self,
+        packet: &[u8],
+        before: &[u8],
+        after: &[u8],
+        answer: &[u8; 16],
+        ending: Ending,
+    ) {
+        if answer[0] != 0 {
+            *self.refusals.entry(answer[0]).or_default() += 1;
+        } else if answer[1] != 0 {
+            self.triples.insert([after[8], after[9], after[10]]);
+        }
+        let Some(&opcode) = packet.first() else {
+            return;
+        };
+        let early = matches!(
+            ending,
+            Ending::Refused(1..=3 | 9 | 10) | Ending::MediumChanged | Ending::WasReset
+        );
+        if !early {
+            self.opcodes.insert(opcode);
+        }
+        let key = (opcode, variant_of(packet), ending);
+        *self.endings.entry(key).or_default() += 1;
+        if let (opcode::READ, Some(marked)) = (opcode, Marked::in_answer(answer)) {
+            *self.reads.entry((ending, marked)).or_default() += 1;
+        }
+        if let Some(asked) = DoorAsked::in_packet(packet) {
+            let door = before[4] % 4;
+            *self.doors.entry((asked, door, ending)).or_default() += 1;
+        }
+    }
 }
 
 /// A session over one image, of a device whose record has `RECORD` bytes.
@@ -227,7 +264,13 @@ impl<const RECORD: usize> ImageBench<RECORD> {
         if stored {
             self.keep_image();
         }
-        self.note(packet, ending);
+        self.seen.note(
+            packet,
+            &self.record_before,
+            self.engine.record.bytes(),
+            self.engine.answer.array(),
+            ending,
+        );
         Ok(ending)
     }
 
@@ -297,35 +340,6 @@ impl<const RECORD: usize> ImageBench<RECORD> {
             .with_both("image", self.engine.image.bytes(), self.model.image.bytes())
             .with_both("data", self.engine.data.bytes(), self.model.data.bytes());
         Box::new(difference)
-    }
-
-    fn note(&mut self, packet: &[u8], ending: Ending) {
-        let answer: [u8; 16] = *self.engine.answer.array();
-        let record: [u8; RECORD] = *self.engine.record.array();
-        if answer[0] != 0 {
-            *self.seen.refusals.entry(answer[0]).or_default() += 1;
-        } else if answer[1] != 0 {
-            self.seen.triples.insert([record[8], record[9], record[10]]);
-        }
-        let Some(&opcode) = packet.first() else {
-            return;
-        };
-        let early = matches!(
-            ending,
-            Ending::Refused(1..=3) | Ending::MediumChanged | Ending::WasReset
-        );
-        if !early {
-            self.seen.opcodes.insert(opcode);
-        }
-        let key = (opcode, variant_of(packet), ending);
-        *self.seen.endings.entry(key).or_default() += 1;
-        if let (opcode::READ, Some(marked)) = (opcode, Marked::in_answer(&answer)) {
-            *self.seen.reads.entry((ending, marked)).or_default() += 1;
-        }
-        if let Some(asked) = DoorAsked::in_packet(packet) {
-            let before = self.record_before[4] % 4;
-            *self.seen.doors.entry((asked, before, ending)).or_default() += 1;
-        }
     }
 }
 

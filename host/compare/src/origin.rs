@@ -23,7 +23,7 @@ impl fmt::Display for Origin {
 const MOST_BYTES: usize = 1 << 20;
 const MOST_OFFSETS: usize = 64;
 
-/// Engine and model differ: the whole case in words and hex digits.
+/// Engine and model differ, or the engine breaks a rule: the whole case in words and hex digits.
 #[derive(Debug)]
 pub struct Difference {
     text: String,
@@ -31,8 +31,13 @@ pub struct Difference {
 
 impl Difference {
     pub fn new(origin: Origin, what: &str, call: &str) -> Difference {
+        Difference::told(&format!("engine and model differ in {what}"), origin, call)
+    }
+
+    /// A rule that the engine breaks, whatever the model does.
+    pub fn told(sentence: &str, origin: Origin, call: &str) -> Difference {
         Difference {
-            text: format!("engine and model differ in {what}\n{origin}\ncall: {call}\n"),
+            text: format!("{sentence}\n{origin}\ncall: {call}\n"),
         }
     }
 

@@ -4,7 +4,7 @@ use tapecard::bytes::opcode::*;
 use tapecard::bytes::{count_at, length, long_at, page, put_count, put_long, put_word, word_at};
 
 use crate::images::{AllowedEdit, OtherRecording, Shape, damage_image};
-use crate::{Difference, PacketBench, Random};
+use crate::{Difference, Random, StreamBench};
 
 /// Opcodes with the weight that each has among good packets.
 const WEIGHTS: [(u8, u64); 14] = [
@@ -34,9 +34,13 @@ const COUNTS_END: u32 = 0x100_0000;
 const LARGEST_BUFFER: u64 = 1 << 20;
 
 /// Makes calls, session after session, until `calls` are compared.
-pub fn run(bench: &mut PacketBench, random_seed: u64, calls: u64) -> Result<(), Box<Difference>> {
+pub fn run(
+    bench: &mut impl StreamBench,
+    random_seed: u64,
+    calls: u64,
+) -> Result<(), Box<Difference>> {
     let mut session = 0;
-    while bench.seen.calls < calls {
+    while bench.seen().calls < calls {
         let mut random = Random::of_session(random_seed, session);
         session += 1;
         run_session(bench, &mut random, calls)?;
@@ -45,7 +49,7 @@ pub fn run(bench: &mut PacketBench, random_seed: u64, calls: u64) -> Result<(), 
 }
 
 fn run_session(
-    bench: &mut PacketBench,
+    bench: &mut impl StreamBench,
     random: &mut Random,
     calls: u64,
 ) -> Result<(), Box<Difference>> {
@@ -58,7 +62,7 @@ fn run_session(
         bench.set_record(&record);
     }
     for _ in 0..random.between(10, 250) {
-        if bench.seen.calls >= calls {
+        if bench.seen().calls >= calls {
             break;
         }
         make_call(bench, random)?;
@@ -66,7 +70,10 @@ fn run_session(
     Ok(())
 }
 
-fn make_call(bench: &mut PacketBench, random: &mut Random) -> Result<(), Box<Difference>> {
+pub(crate) fn make_call(
+    bench: &mut impl StreamBench,
+    random: &mut Random,
+) -> Result<(), Box<Difference>> {
     match random.weighted(&[810, 20, 20, 10, 5, 15, 20, 20, 80]) {
         0 => send_good(bench, random),
         1 => send_cut(bench, random),
@@ -89,7 +96,10 @@ fn make_call(bench: &mut PacketBench, random: &mut Random) -> Result<(), Box<Dif
     }
 }
 
-fn send_good(bench: &mut PacketBench, random: &mut Random) -> Result<(), Box<Difference>> {
+pub(crate) fn send_good(
+    bench: &mut impl StreamBench,
+    random: &mut Random,
+) -> Result<(), Box<Difference>> {
     let place = Place::of(bench);
     let packet = good_packet(random, &place);
     let data = buffer_for(random, &packet, &place);
@@ -98,7 +108,7 @@ fn send_good(bench: &mut PacketBench, random: &mut Random) -> Result<(), Box<Dif
 }
 
 /// A packet that is too short or too long.
-fn send_cut(bench: &mut PacketBench, random: &mut Random) -> Result<(), Box<Difference>> {
+fn send_cut(bench: &mut impl StreamBench, random: &mut Random) -> Result<(), Box<Difference>> {
     let packet = good_packet(random, &Place::of(bench));
     bench.send(&cut(random, &packet), &[0xD7; 40])?;
     Ok(())
@@ -116,7 +126,7 @@ pub(crate) fn cut(random: &mut Random, packet: &[u8; 12]) -> Vec<u8> {
     packet
 }
 
-fn send_random(bench: &mut PacketBench, random: &mut Random) -> Result<(), Box<Difference>> {
+fn send_random(bench: &mut impl StreamBench, random: &mut Random) -> Result<(), Box<Difference>> {
     let mut packet = [0; 12];
     random.fill(&mut packet);
     if random.percent(60) {
@@ -129,7 +139,7 @@ fn send_random(bench: &mut PacketBench, random: &mut Random) -> Result<(), Box<D
 
 /// One packet with a record that is damaged in one field or wholly; mostly put back afterwards.
 fn with_damaged_record(
-    bench: &mut PacketBench,
+    bench: &mut impl StreamBench,
     random: &mut Random,
 ) -> Result<(), Box<Difference>> {
     let good = *bench.record();
@@ -162,7 +172,10 @@ fn with_damaged_record(
 }
 
 /// One packet over an image that is damaged in its header or cut; put back afterwards.
-fn with_damaged_image(bench: &mut PacketBench, random: &mut Random) -> Result<(), Box<Difference>> {
+fn with_damaged_image(
+    bench: &mut impl StreamBench,
+    random: &mut Random,
+) -> Result<(), Box<Difference>> {
     let good = bench.image().to_vec();
     let record = *bench.record();
     let mut image = good.clone();
@@ -174,7 +187,7 @@ fn with_damaged_image(bench: &mut PacketBench, random: &mut Random) -> Result<()
     Ok(())
 }
 
-fn edit_good_image(bench: &mut PacketBench, random: &mut Random) {
+fn edit_good_image(bench: &mut impl StreamBench, random: &mut Random) {
     let place = Place::of(bench);
     let edit = AllowedEdit::any(random, place.capacity, place.kinds_at);
     bench.edit_image(|image| edit.make(image));
@@ -182,7 +195,7 @@ fn edit_good_image(bench: &mut PacketBench, random: &mut Random) {
 
 /// A READ from any place of a cartridge on which no WRITE of this session has made the kinds alike.
 fn read_other_recording(
-    bench: &mut PacketBench,
+    bench: &mut impl StreamBench,
     random: &mut Random,
 ) -> Result<(), Box<Difference>> {
     let place = Place::of(bench);
@@ -211,7 +224,7 @@ struct Place {
 }
 
 impl Place {
-    fn of(bench: &PacketBench) -> Place {
+    fn of(bench: &impl StreamBench) -> Place {
         let image = bench.image();
         let record = bench.record();
         let (recorded, capacity, size, kinds_at) = if image.len() < 32 {

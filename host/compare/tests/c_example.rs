@@ -94,12 +94,17 @@ int main(void)
     uint8_t record[TAPECARD_PULSE_RECORD_LENGTH], answer[TAPECARD_PULSE_ANSWER_LENGTH];
     uint8_t cartridge[TAPECARD_CARTRIDGE_LENGTH] = {0, 1, 1, 0, 0, 0, 0, 0};
     uint8_t packet[TAPECARD_PACKET_LENGTH] = {0}, image[1] = {0}, data[1] = {0};
-    uint8_t floppy_record[TAPECARD_FLOPPY_RECORD_LENGTH] = {0};
+    uint8_t floppy_record[TAPECARD_FLOPPY_RECORD_LENGTH] = {0}, index[TAPECARD_INDEX_ENTRY_LENGTH] = {0};
     int refused = 0;
 
     tapecard_fresh(packet_record);
     tapecard_change(packet_record);
     tapecard_packet(packet_record, image, sizeof image, packet, sizeof packet, data, sizeof data, packet_answer);
+    refused += packet_answer[TAPECARD_ANSWER_NUMBER_AT] != TAPECARD_REFUSED_IMAGE;
+    tapecard_index_make(image, sizeof image, index, sizeof index, packet_answer);
+    refused += packet_answer[TAPECARD_ANSWER_NUMBER_AT] != TAPECARD_REFUSED_IMAGE;
+    tapecard_index_packet(packet_record, image, sizeof image, index, sizeof index, packet, sizeof packet, data, sizeof data,
+                          packet_answer);
     refused += packet_answer[TAPECARD_ANSWER_NUMBER_AT] != TAPECARD_REFUSED_IMAGE;
     tapecard_floppy_fresh(floppy_record, image, sizeof image, packet_answer);
     refused += packet_answer[TAPECARD_ANSWER_NUMBER_AT] != TAPECARD_REFUSED_IMAGE;

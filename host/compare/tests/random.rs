@@ -3,9 +3,10 @@
 use std::collections::BTreeSet;
 use std::time::Instant;
 
-use compare::{DoorAsked, FloppyBench, Marked, PacketBench, PacketSeen};
+use compare::{DoorAsked, Entries, FloppyBench, IndexBench, Marked, PacketBench, PacketSeen};
 use compare::{PulseBench, PulseCall, PulseSeen, Random};
-use compare::{calls_wanted, floppy_sessions, packet_sessions, pulse_sessions, say, seed_wanted};
+use compare::{calls_wanted, say, seed_wanted};
+use compare::{floppy_sessions, index_sessions, packet_sessions, pulse_sessions};
 use model::Bug;
 use model::floppy;
 use model::packet::{Ending, OPCODES};
@@ -43,6 +44,27 @@ fn packet_drive() {
     ));
     if calls >= COVERAGE_FROM {
         packets_went_everywhere(&bench.seen);
+    }
+}
+
+#[test]
+fn filemark_index() {
+    let seed = seed_wanted();
+    let calls = calls_wanted(USUAL_CALLS);
+    let begun = Instant::now();
+    let mut bench = IndexBench::new(Bug::None, seed);
+    if let Err(difference) = index_sessions::run(&mut bench, seed, calls) {
+        panic!("{difference}");
+    }
+    say(&format!(
+        "filemark index: seed {seed:#x}, {} calls in {} sessions compared in {:.1} s, {} kinds of ending",
+        bench.seen.calls,
+        bench.origin.session,
+        begun.elapsed().as_secs_f64(),
+        bench.seen.endings.len()
+    ));
+    if calls >= COVERAGE_FROM {
+        index_packets_went_everywhere(&bench);
     }
 }
 
@@ -113,7 +135,7 @@ fn long_pulse_session() {
 
 fn packets_went_everywhere(seen: &PacketSeen) {
     assert_eq!(seen.triples, triples());
-    ended_every_way(seen, &wanted_endings());
+    ended_every_way(seen, &PACKET_REFUSALS, &wanted_endings());
     met_the_end_of_data_often(seen);
     read_marked_blocks_often(seen, &READ_ENDINGS);
     used_the_door_often(seen);
@@ -183,10 +205,13 @@ fn met_the_end_of_data_often(seen: &PacketSeen) {
     }
 }
 
+/// Numbers that a packet is refused with, without an index.
+const PACKET_REFUSALS: [u8; 4] = [1, 2, 3, 4];
+
 /// Refused by each number, every first byte looked at, and each of these endings met.
-fn ended_every_way(seen: &PacketSeen, wanted: &[(u8, u8, Ending)]) {
+fn ended_every_way(seen: &PacketSeen, numbers: &[u8], wanted: &[(u8, u8, Ending)]) {
     let refusals: Vec<u8> = seen.refusals.keys().copied().collect();
-    assert_eq!(refusals, [1, 2, 3, 4]);
+    assert_eq!(refusals, numbers);
     assert_eq!(seen.opcodes.len(), 256, "every opcode was looked at");
     for &(opcode, variant, ending) in wanted {
         assert!(
@@ -294,6 +319,43 @@ fn wanted_endings() -> Vec<(u8, u8, Ending)> {
     wanted
 }
 
+/// With the index kept, wherever the plain drive goes; with a wrong one, 9 and 10 for every packet (02, A4), 03h and 12h too.
+fn index_packets_went_everywhere(bench: &IndexBench) {
+    let seen = &bench.seen;
+    let made = [("make", 0), ("make", 2), ("make", 9)];
+    assert_eq!(seen.numbers, BTreeSet::from(made));
+    assert_eq!(seen.triples, triples());
+    let mut wanted = wanted_endings();
+    for (opcode, variant, _) in OWN_ENDINGS {
+        wanted.extend([9, 10].map(|number| (opcode, variant, Ending::Refused(number))));
+    }
+    ended_every_way(seen, &[1, 2, 3, 4, 9, 10], &wanted);
+    met_the_end_of_data_often(seen);
+    rewrote_entries_often(bench);
+}
+
+/// A WRITE kept or dropped entries and a WRITE FILEMARK made of them whatever can be made, each once in a thousand calls; nothing
+/// else changed them.
+fn rewrote_entries_often(bench: &IndexBench) {
+    use Entries::*;
+    for (opcode, made) in [
+        (opcode::WRITE, &[Kept, Dropped][..]),
+        (opcode::WRITE_FILEMARK, &Entries::ALL),
+    ] {
+        for &entries in made {
+            let times = bench.entries.get(&(opcode, entries));
+            assert!(
+                once_in(1000, &bench.seen, times),
+                "opcode {opcode:02X}h left the entries {entries:?} {times:?} times"
+            );
+        }
+    }
+    for &(opcode, entries) in bench.entries.keys() {
+        let stores = [opcode::WRITE, opcode::WRITE_FILEMARK].contains(&opcode);
+        assert!(stores || entries == Kept, "{opcode:02X}h changed entries");
+    }
+}
+
 fn floppy_packets_went_everywhere(seen: &PacketSeen) {
     let starts = [("change", 0), ("change", 2), ("fresh", 0), ("fresh", 2)];
     assert_eq!(seen.numbers, BTreeSet::from(starts));
@@ -302,7 +364,7 @@ fn floppy_packets_went_everywhere(seen: &PacketSeen) {
         triples.remove(&of_the_stream);
     }
     assert_eq!(seen.triples, triples);
-    ended_every_way(seen, &wanted_floppy_endings());
+    ended_every_way(seen, &PACKET_REFUSALS, &wanted_floppy_endings());
     read_marked_blocks_often(seen, &FLOPPY_READ_ENDINGS);
     used_the_door_often(seen);
 }

@@ -149,6 +149,140 @@ pub enum Bug {
     /// A refused packet clears the sense.
     RefusalClearsSense,
 
+    // Packet drive with a filemark index.
+    /// The index takes in kinds at U and above.
+    IndexOfCapacity,
+    /// The index leaves out a filemark at place 0.
+    IndexMissesFirst,
+    /// The index leaves out a filemark right before U.
+    IndexMissesLast,
+    /// The index takes in marked blocks.
+    IndexTakesMarked,
+    /// An entry is the place behind its filemark.
+    IndexTakesBeyond,
+    /// An entry is its place cut to a byte.
+    IndexCutToByte,
+    /// The last filemark comes first.
+    IndexDescends,
+    /// An entry has its lowest byte first.
+    IndexLittleEndian,
+    /// The rest of the index is 00h.
+    IndexRestZero,
+    /// The rest of the index stays as it was.
+    IndexLeavesRest,
+    /// Bytes beyond the index become FFh.
+    IndexClearsBeyond,
+    /// The answer to `make` counts all elements.
+    MakeCountsElements,
+    /// The answer to `make` tells the bytes of the entries alone.
+    MakeTellsEntries,
+    /// The answer to `make` tells the bytes of the whole buffer.
+    MakeTellsRoom,
+    /// `make` gives 9 before 2.
+    MakeJudgesLengthFirst,
+    /// An index that is refused with 9 is filled as far as it goes.
+    ShortIndexFilled,
+    /// An index of 4*C - 1 bytes is taken.
+    IndexOneShortTaken,
+    /// An index of 4*U bytes is taken.
+    IndexLengthByRecorded,
+    /// An index of more than 4*C bytes is refused with 9.
+    LongIndexRefused,
+    /// 10 is given before 9.
+    LengthAfterEntries,
+    /// 9 and 10 are given before 1.
+    IndexBeforePacketLength,
+    /// 9 and 10 are given before 3.
+    IndexBeforeRecord,
+    /// A pending attention is told before 9 and 10.
+    IndexAfterAttention,
+    /// A drive that is not loaded says so before 9 and 10.
+    IndexAfterLoaded,
+    /// 4 is given before 9 and 10.
+    IndexAfterBuffer,
+    /// 9 and 10 are not judged for 03h.
+    SensePassesIndex,
+    /// 9 and 10 are not judged for 12h.
+    InquiryPassesIndex,
+    /// 9 and 10 are judged only for SPACE, WRITE and WRITE FILEMARK.
+    OnlyUsersJudgeIndex,
+    /// 10 is not noticed in the last entry.
+    LastEntryUnchecked,
+    /// 10 is not noticed behind the entries of the filemarks.
+    RestUnchecked,
+    /// 10 is not noticed in the two high bytes of an entry.
+    HighBytesUnchecked,
+    /// An index that ends before the last filemark is taken.
+    MissingEntriesTaken,
+    /// 10 is given where bytes beyond the index are not FFh.
+    BeyondChecked,
+    /// An index that is refused with 10 is made afresh.
+    RefusalMendsIndex,
+    /// 9 and 10 clear a pending attention.
+    IndexRefusalClearsAttention,
+    /// 9 and 10 clear the sense.
+    IndexRefusalClearsSense,
+    /// 9 and 10 are given after the image has changed.
+    IndexRefusedAfterWork,
+    /// The index stays as it was through WRITE.
+    WriteKeepsIndex,
+    /// The index stays as it was through WRITE FILEMARK.
+    FilemarksKeepIndex,
+    /// The index stays as it was where the cartridge gets full.
+    FullWriteKeepsIndex,
+    /// The index stays as it was at early warning.
+    WarnedWriteKeepsIndex,
+    /// Several filemarks that are stored at once get one entry.
+    FilemarksIndexedOnce,
+    /// Filemarks get entries though there was no room to store them.
+    FilemarksIndexedAsAsked,
+    /// Entries behind the new ones stay.
+    EntriesLeftBehind,
+    /// The entry of a filemark that is written over stays.
+    EntryAtPlaceKept,
+    /// The entry right before what is written goes.
+    EntryBeforePlaceDropped,
+    /// A write of nothing cuts the index at P.
+    EmptyWriteCutsIndex,
+    /// A write to a protected cartridge cuts the index at P.
+    ProtectedWriteCutsIndex,
+    /// A WRITE that is refused for its buffer cuts the index at P.
+    RefusedWriteCutsIndex,
+    /// An unload leaves an index of no filemark.
+    UnloadClearsIndex,
+    /// SPACE over filemarks ends before the last.
+    IndexSpaceEndsBefore,
+    /// SPACE over filemarks does not count the one at P.
+    SpaceMissesFilemarkAtPlace,
+    /// SPACE back over filemarks counts the one at P.
+    SpaceBackTakesFilemarkAtPlace,
+    /// SPACE over filemarks counts from the first entry on.
+    SpaceCountsFromBeginning,
+    /// SPACE over filemarks never begins behind the last entry.
+    SpaceStuckAtLastEntry,
+    /// SPACE over 0 filemarks goes behind the last one before P.
+    SpaceOfNoneMoves,
+    /// SPACE over filemarks ends behind the last entry where it should end at U.
+    SpaceEndsBehindLastEntry,
+    /// SPACE back over filemarks ends at the first entry where it should end at 0.
+    SpaceBackEndsAtFirstEntry,
+    /// The residue of SPACE over filemarks leaves out those before P too.
+    SpaceCountsAllEntries,
+    /// The residue of SPACE over filemarks is one short.
+    IndexSpaceResidueShort,
+    /// SPACE over filemarks shows no EOM at the end of data.
+    IndexSpaceHidesEom,
+    /// SPACE over filemarks shows no EOM at the beginning.
+    IndexSpaceBeginningHidesEom,
+    /// SPACE over -8,388,608 filemarks passes none.
+    IndexSpaceLowestIsNone,
+    /// SPACE over filemarks passes a pending attention.
+    IndexSpacePassesAttention,
+    /// SPACE over filemarks needs no loaded cartridge.
+    IndexSpaceNeedsNoCartridge,
+    /// SPACE over filemarks leaves the sense where it ends GOOD.
+    IndexSpaceKeepsSense,
+
     // Floppy tape device.
     /// The residue at an unreadable block counts the block in error.
     BlockInErrorInResidue,
@@ -321,6 +455,76 @@ impl Bug {
         Bug::WrongListTakesBytes,
         Bug::ChangeKeepsReset,
         Bug::RefusalClearsSense,
+    ];
+
+    /// Further mistakes in the packet drive with a filemark index.
+    pub const INDEX: [Bug; 66] = [
+        Bug::IndexOfCapacity,
+        Bug::IndexMissesFirst,
+        Bug::IndexMissesLast,
+        Bug::IndexTakesMarked,
+        Bug::IndexTakesBeyond,
+        Bug::IndexCutToByte,
+        Bug::IndexDescends,
+        Bug::IndexLittleEndian,
+        Bug::IndexRestZero,
+        Bug::IndexLeavesRest,
+        Bug::IndexClearsBeyond,
+        Bug::MakeCountsElements,
+        Bug::MakeTellsEntries,
+        Bug::MakeTellsRoom,
+        Bug::MakeJudgesLengthFirst,
+        Bug::ShortIndexFilled,
+        Bug::IndexOneShortTaken,
+        Bug::IndexLengthByRecorded,
+        Bug::LongIndexRefused,
+        Bug::LengthAfterEntries,
+        Bug::IndexBeforePacketLength,
+        Bug::IndexBeforeRecord,
+        Bug::IndexAfterAttention,
+        Bug::IndexAfterLoaded,
+        Bug::IndexAfterBuffer,
+        Bug::SensePassesIndex,
+        Bug::InquiryPassesIndex,
+        Bug::OnlyUsersJudgeIndex,
+        Bug::LastEntryUnchecked,
+        Bug::RestUnchecked,
+        Bug::HighBytesUnchecked,
+        Bug::MissingEntriesTaken,
+        Bug::BeyondChecked,
+        Bug::RefusalMendsIndex,
+        Bug::IndexRefusalClearsAttention,
+        Bug::IndexRefusalClearsSense,
+        Bug::IndexRefusedAfterWork,
+        Bug::WriteKeepsIndex,
+        Bug::FilemarksKeepIndex,
+        Bug::FullWriteKeepsIndex,
+        Bug::WarnedWriteKeepsIndex,
+        Bug::FilemarksIndexedOnce,
+        Bug::FilemarksIndexedAsAsked,
+        Bug::EntriesLeftBehind,
+        Bug::EntryAtPlaceKept,
+        Bug::EntryBeforePlaceDropped,
+        Bug::EmptyWriteCutsIndex,
+        Bug::ProtectedWriteCutsIndex,
+        Bug::RefusedWriteCutsIndex,
+        Bug::UnloadClearsIndex,
+        Bug::IndexSpaceEndsBefore,
+        Bug::SpaceMissesFilemarkAtPlace,
+        Bug::SpaceBackTakesFilemarkAtPlace,
+        Bug::SpaceCountsFromBeginning,
+        Bug::SpaceStuckAtLastEntry,
+        Bug::SpaceOfNoneMoves,
+        Bug::SpaceEndsBehindLastEntry,
+        Bug::SpaceBackEndsAtFirstEntry,
+        Bug::SpaceCountsAllEntries,
+        Bug::IndexSpaceResidueShort,
+        Bug::IndexSpaceHidesEom,
+        Bug::IndexSpaceBeginningHidesEom,
+        Bug::IndexSpaceLowestIsNone,
+        Bug::IndexSpacePassesAttention,
+        Bug::IndexSpaceNeedsNoCartridge,
+        Bug::IndexSpaceKeepsSense,
     ];
 
     /// Further mistakes in the floppy tape device.

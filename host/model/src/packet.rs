@@ -102,6 +102,34 @@ pub fn packet_with(
     (reply.encoded(), reply.ending)
 }
 
+// "Packet order: 1, 2, 3, ..": the image's header where none of these is given, else the number.
+pub(crate) fn header_first(
+    bug: Bug,
+    state: &State,
+    image: &[u8],
+    packet: &[u8],
+) -> Result<Header, u8> {
+    if packet.len() != PACKET_LENGTH {
+        return Err(1);
+    }
+    let header = Header::of_with(bug, image).ok_or(2)?;
+    if record_keeps_rules(bug, state, &header) {
+        Ok(header)
+    } else {
+        Err(3)
+    }
+}
+
+// "packet record has P > U, a speed outside the five, or a sense key above 15".
+fn record_keeps_rules(bug: Bug, state: &State, header: &Header) -> bool {
+    let position_kept = if bug == Bug::PositionAtEndRefused {
+        state.position < header.recorded
+    } else {
+        state.position <= header.recorded
+    };
+    position_kept && SPEEDS.contains(&state.speed) && state.sense.key <= 15
+}
+
 struct Drive<'a> {
     bug: Bug,
     state: State,
@@ -114,15 +142,10 @@ impl Drive<'_> {
     // "Packet order: 1, 2, 3, attention, opcode, fields, not ready, protection, 4, list contents, the work."; 02, A8: "53/02
     // stands after the fields check of 1Bh, and 1Eh has no not-ready check."
     fn answered(&mut self) -> Reply {
-        if self.packet.len() != PACKET_LENGTH {
-            return Reply::refused(1);
-        }
-        let Some(mut header) = Header::of_with(self.bug, self.image) else {
-            return Reply::refused(2);
+        let mut header = match header_first(self.bug, &self.state, self.image, self.packet) {
+            Ok(header) => header,
+            Err(number) => return Reply::refused(number),
         };
-        if !self.record_keeps_rules(&header) {
-            return Reply::refused(3);
-        }
         if self.bug == Bug::AttentionAfterOpcode && !self.opcode_is_known() {
             return unknown_opcode();
         }
@@ -173,16 +196,6 @@ impl Drive<'_> {
     // N, "count N in bytes 2-4".
     fn count(&self) -> u32 {
         triple_at(self.packet, 2)
-    }
-
-    // "packet record has P > U, a speed outside the five, or a sense key above 15".
-    fn record_keeps_rules(&self, header: &Header) -> bool {
-        let position_kept = if self.bug == Bug::PositionAtEndRefused {
-            self.state.position < header.recorded
-        } else {
-            self.state.position <= header.recorded
-        };
-        position_kept && SPEEDS.contains(&self.state.speed) && self.state.sense.key <= 15
     }
 
     fn opcode_is_known(&self) -> bool {

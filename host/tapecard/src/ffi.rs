@@ -18,6 +18,25 @@ mod archive {
             data_length: usize,
             answer: *mut u8,
         );
+        pub fn tapecard_index_make(
+            image: *const u8,
+            image_length: usize,
+            index: *mut u8,
+            index_length: usize,
+            answer: *mut u8,
+        );
+        pub fn tapecard_index_packet(
+            record: *mut u8,
+            image: *mut u8,
+            image_length: usize,
+            index: *mut u8,
+            index_length: usize,
+            packet: *const u8,
+            packet_length: usize,
+            data: *mut u8,
+            data_length: usize,
+            answer: *mut u8,
+        );
         pub fn tapecard_floppy_fresh(
             record: *mut u8,
             image: *const u8,
@@ -73,6 +92,46 @@ pub fn packet(
             record.as_mut_ptr(),
             image.as_mut_ptr(),
             image.len(),
+            packet.as_ptr(),
+            packet.len(),
+            data.as_mut_ptr(),
+            data.len(),
+            answer.as_mut_ptr(),
+        )
+    }
+}
+
+pub fn index_make(image: &[u8], index: &mut [u8], answer: &mut [u8; 16]) {
+    // SAFETY: image and index go over with their own lengths, the image is only read, the answer has 16 bytes, and the borrows keep
+    // the three apart.
+    unsafe {
+        archive::tapecard_index_make(
+            image.as_ptr(),
+            image.len(),
+            index.as_mut_ptr(),
+            index.len(),
+            answer.as_mut_ptr(),
+        )
+    }
+}
+
+pub fn index_packet(
+    record: &mut [u8; 16],
+    image: &mut [u8],
+    index: &mut [u8],
+    packet: &[u8],
+    data: &mut [u8],
+    answer: &mut [u8; 16],
+) {
+    // SAFETY: each slice goes over with its own length, record and answer have 16 bytes, `packet` is only read, and the borrows
+    // keep the six apart.
+    unsafe {
+        archive::tapecard_index_packet(
+            record.as_mut_ptr(),
+            image.as_mut_ptr(),
+            image.len(),
+            index.as_mut_ptr(),
+            index.len(),
             packet.as_ptr(),
             packet.len(),
             data.as_mut_ptr(),

@@ -47,6 +47,8 @@ fn sentence_of(number: u8) -> &'static str {
         6 => "cartridge description outside its ranges",
         7 => "insertion with a cartridge in, or removal with none",
         8 => "pulse record breaks the record rules",
+        9 => "filemark index is shorter than four times the capacity: lend 4*C bytes",
+        10 => "filemark index differs from a fresh one: make it afresh from the image",
         _ => "no house refusal has this number",
     }
 }
@@ -91,6 +93,19 @@ mod tests {
         );
         assert!(shown(3, Device::Floppy).ends_with("or P above that product"));
         assert_eq!(shown(4, Device::Floppy), shown(4, Device::Stream));
+    }
+
+    /// Both say what to do about it.
+    #[test]
+    fn an_index_that_is_not_the_images() {
+        assert_eq!(
+            shown(9, Device::Stream),
+            "refusal 9: filemark index is shorter than four times the capacity: lend 4*C bytes"
+        );
+        assert_eq!(
+            shown(10, Device::Stream),
+            "refusal 10: filemark index differs from a fresh one: make it afresh from the image"
+        );
     }
 
     #[test]

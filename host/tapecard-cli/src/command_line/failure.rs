@@ -57,6 +57,47 @@ impl From<io::Error> for Failure {
 
 impl From<Refusal> for Failure {
     fn from(refusal: Refusal) -> Failure {
-        Failure::work(format!("the drive gave {refusal}; nothing changed"))
+        let advice = advice(refusal);
+        Failure::work(format!("the drive gave {refusal}; nothing changed{advice}"))
+    }
+}
+
+/// What to do about a refusal that no command puts into words of its own.
+fn advice(refusal: Refusal) -> &'static str {
+    match refusal.number {
+        2 => ". Take another copy of the image, or make one with tapecard new",
+        // Who lends the index is the command, not its user.
+        9 | 10 => {
+            ". The command makes the index itself, so it is not of one build with the archive: build both with make demo"
+        }
+        _ => "",
+    }
+}
+
+#[cfg(test)]
+mod tests {
+    use super::*;
+    use tapecard::Device;
+
+    #[test]
+    fn a_refusal_says_what_was_wrong_and_what_to_do() {
+        let of_the_index = ". The command makes the index itself, so it is not of one build with the archive: build both with \
+                            make demo";
+        for (number, what_to_do) in [
+            (
+                2,
+                ". Take another copy of the image, or make one with tapecard new",
+            ),
+            (3, ""),
+            (9, of_the_index),
+            (10, of_the_index),
+        ] {
+            let refusal = Refusal {
+                number,
+                device: Device::Stream,
+            };
+            let expected = format!("the drive gave {refusal}; nothing changed{what_to_do}");
+            assert!(matches!(Failure::from(refusal), Failure::Work(said) if said == expected));
+        }
     }
 }

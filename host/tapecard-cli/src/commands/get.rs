@@ -112,7 +112,7 @@ impl Taken {
             None => own_name(number, file)?,
         };
         let reading = format!("reading {}", file.name());
-        let mut progress = Progress::new(reading, file.blocks.into());
+        let mut progress = Progress::new(reading, file.stretch.blocks.into());
         let mut read = reading::read(drive, file.whole(), &mut progress)?;
         if !raw {
             keep_own_bytes(file, drive.block_size(), &mut read.bytes);

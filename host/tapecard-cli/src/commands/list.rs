@@ -2,11 +2,12 @@
 
 use std::io::Write;
 
-use super::{Command, NO_OPTIONS, open_only_image};
+use super::{Command, NO_OPTIONS, no_files, open_only_image};
 use crate::command_line::args::Args;
 use crate::command_line::failure::Failure;
 use crate::tape::catalogue::{TapeFile, catalogue};
 use crate::tape::drive::Drive;
+use crate::tape::stretches::Stretch;
 use crate::tape::survey::{self, Kind};
 use crate::terminal::output;
 use crate::terminal::progress::Progress;
@@ -33,8 +34,7 @@ fn run(args: &Args, out: &mut dyn Write) -> Result<(), Failure> {
     let (path, mut drive) = open_only_image(args)?;
     let files = catalogue(&mut drive)?;
     if files.is_empty() {
-        let text = format!("{} holds no files\n", words::shown(path));
-        return output::show(out, text.as_bytes());
+        return output::show(out, no_files(path).as_bytes());
     }
     let marked = marked_blocks(&mut drive, &files)?;
     let size = drive.block_size();
@@ -47,8 +47,8 @@ fn run(args: &Args, out: &mut dyn Write) -> Result<(), Failure> {
             (index + 1).to_string(),
             file.name(),
             file.length().map_or("-".into(), |n| n.to_string()),
-            file.blocks.to_string(),
-            file.place.to_string(),
+            file.stretch.blocks.to_string(),
+            file.stretch.place.to_string(),
             remarks(file.remark(size), marked),
         ];
         text.push_str(&row(width, cells));
@@ -62,7 +62,8 @@ fn marked_blocks(drive: &mut Drive, files: &[TapeFile]) -> Result<Vec<usize>, Fa
     let mut progress = Progress::new("reading", end.into());
     let kinds = survey::survey(drive, |elements| progress.advance(elements))?;
     let marked = |file: &TapeFile| {
-        let own = &kinds[file.place as usize..][..file.blocks as usize];
+        let Stretch { place, blocks, .. } = file.stretch;
+        let own = &kinds[place as usize..][..blocks as usize];
         own.iter().filter(|kind| **kind == Kind::Marked).count()
     };
     Ok(files.iter().map(marked).collect())

@@ -2,6 +2,7 @@
 
 mod get;
 mod info;
+mod labels;
 mod list;
 mod new;
 mod packet;
@@ -28,12 +29,13 @@ struct Command {
     run: fn(&Args, &mut dyn Write) -> Result<(), Failure>,
 }
 
-static COMMANDS: [Command; 8] = [
+static COMMANDS: [Command; 9] = [
     new::COMMAND,
     info::COMMAND,
     put::COMMAND,
     get::COMMAND,
     list::COMMAND,
+    labels::COMMAND,
     packet::COMMAND,
     pulse::COMMAND,
     recover::COMMAND,
@@ -90,6 +92,11 @@ fn open_only_image(args: &Args) -> Result<(&Path, Drive), Failure> {
     let path = Path::new(args.operand(0, "the image")?);
     args.at_most(1)?;
     Ok((path, image_file::load(path)?))
+}
+
+/// What is said of a tape without files.
+fn no_files(path: &Path) -> String {
+    format!("{} holds no files\n", words::shown(path))
 }
 
 fn help(words: &[OsString], out: &mut dyn Write) -> Result<(), Failure> {

@@ -1,10 +1,12 @@
 //! A packet drive with a cartridge in it. All content of an image goes through here.
 
 use tapecard::bytes::{length, page, triple};
+use tapecard::index::{self, ENTRY_LENGTH};
 use tapecard::packet::{Answer, Record, Sense, packet};
 use tapecard::{Refusal, sense_words};
 
 use crate::command_line::failure::Failure;
+use crate::tape::header::LARGEST_CAPACITY;
 use crate::tape::packets::{self, Packet};
 
 /// Blocks moved by one packet.
@@ -82,6 +84,14 @@ impl Drive {
     pub fn go_to_end_of_data(&mut self) -> Result<u32, Failure> {
         self.order(&packets::space_to_end_of_data())?;
         Ok(self.position())
+    }
+
+    /// The places of all filemarks, by an index made for this and lent what the longest tape needs. No packet is sent through it: it
+    /// would first be compared with the whole tape, each time.
+    pub fn filemarks(&self) -> Result<Vec<u32>, Failure> {
+        let mut index = vec![0; LARGEST_CAPACITY as usize * ENTRY_LENGTH];
+        let made = index::make(&self.image, &mut index)?;
+        Ok(index::places(&index[..made.bytes as usize]).collect())
     }
 
     /// A failure for an ending that has no words of its own where it came.

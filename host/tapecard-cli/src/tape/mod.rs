@@ -7,5 +7,6 @@ pub mod header;
 pub mod label;
 pub mod packets;
 pub mod reading;
+pub mod stretches;
 pub mod strip;
 pub mod survey;

@@ -29,11 +29,6 @@ pub fn write_filemark() -> Packet {
     packet(opcode::WRITE_FILEMARK, 0, 1)
 }
 
-/// SPACE to just beyond the next filemark.
-pub fn space_beyond_filemark() -> Packet {
-    packet(opcode::SPACE, space::FILEMARKS, 1)
-}
-
 pub fn space_to_end_of_data() -> Packet {
     packet(opcode::SPACE, space::END_OF_DATA, 0)
 }

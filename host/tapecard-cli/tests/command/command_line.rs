@@ -2,8 +2,8 @@
 
 use crate::common::Place;
 
-const COMMANDS: [&str; 8] = [
-    "new", "info", "put", "get", "list", "packet", "pulse", "recover",
+const COMMANDS: [&str; 9] = [
+    "new", "info", "put", "get", "list", "labels", "packet", "pulse", "recover",
 ];
 
 #[test]
@@ -54,13 +54,13 @@ fn no_command() {
 fn an_unknown_command() {
     Place::new().run(&["rewind"]).is_bad(
         2,
-        "there is no command rewind: the commands are new, info, put, get, list, packet, pulse, recover; see tapecard \
-         --help",
+        "there is no command rewind: the commands are new, info, put, get, list, labels, packet, pulse, recover; see \
+         tapecard --help",
     );
 }
 
 /// Command lines with a wrong word, and what is said of each.
-const WRONG_WORDS: [(&[&str], &str); 12] = [
+const WRONG_WORDS: [(&[&str], &str); 17] = [
     (
         &["info", "--fast", "t"],
         "there is no option --fast; see tapecard info --help",
@@ -88,6 +88,26 @@ const WRONG_WORDS: [(&[&str], &str); 12] = [
         "-o needs a value; see tapecard get --help",
     ),
     (&["list"], "the image is missing; see tapecard list --help"),
+    (
+        &["labels", "--csv"],
+        "the image is missing; see tapecard labels --help",
+    ),
+    (
+        &["labels", "a", "b", "--csv"],
+        "b is one word too many; see tapecard labels --help",
+    ),
+    (
+        &["labels", "t", "--tsv"],
+        "there is no option --tsv; see tapecard labels --help",
+    ),
+    (
+        &["labels", "t", "--csv=yes"],
+        "--csv takes no value; see tapecard labels --help",
+    ),
+    (
+        &["labels", "t", "--csv", "--csv"],
+        "--csv is given twice; see tapecard labels --help",
+    ),
     (
         &["packet"],
         "the image is missing; see tapecard packet --help",
@@ -198,6 +218,8 @@ fn a_missing_image_is_said_by_every_command() {
     for words in [
         &["info", "no.img"][..],
         &["list", "no.img"],
+        &["labels", "no.img"],
+        &["labels", "no.img", "--csv"],
         &["put", "no.img", "f"],
         &["get", "no.img", "1"],
         &["packet", "no.img", "00"],

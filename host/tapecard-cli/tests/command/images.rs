@@ -144,6 +144,8 @@ fn a_truncated_image_is_no_image() {
         for words in [
             &["info", "t.img"][..],
             &["list", "t.img"],
+            &["labels", "t.img"],
+            &["labels", "t.img", "--csv"],
             &["put", "t.img", "t.img"],
             &["get", "t.img", "1"],
         ] {
@@ -197,6 +199,7 @@ fn a_huge_file_is_judged_by_its_header() {
     for words in [
         &["info", "huge"][..],
         &["list", "huge"],
+        &["labels", "huge"],
         &["put", "huge", "f"],
     ] {
         let said = place.run(words);

@@ -7,6 +7,7 @@ mod floppy;
 mod flushing;
 mod images;
 mod interrupts;
+mod label_printer;
 mod labels;
 mod locked;
 mod marked;

@@ -74,7 +74,13 @@ fn work_that_is_done_stays_done_where_nobody_is_told() {
 fn what_was_asked_for_and_cannot_be_shown_is_a_failure() {
     let place = place();
     let full = "standard output took no more: No space left on device (os error 28)";
-    for line in ["list t.img", "info t.img", "--help"] {
+    for line in [
+        "list t.img",
+        "labels t.img",
+        "labels t.img --csv",
+        "info t.img",
+        "--help",
+    ] {
         place
             .shell(&format!("$TAPECARD {line} >/dev/full"))
             .is_bad(1, full);

@@ -124,9 +124,11 @@ fn an_image_that_stays_in_use_is_refused() {
 fn an_image_in_use_can_be_read() {
     let place = place();
     let session = session(&place);
-    place
-        .run(&["list", "t.img"])
-        .is_good("t.img holds no files\n");
+    for command in ["list", "labels"] {
+        place
+            .run(&[command, "t.img"])
+            .is_good("t.img holds no files\n");
+    }
     session.end();
 }
 

@@ -23,7 +23,7 @@ pub struct Appending<'a> {
 impl<'a> Appending<'a> {
     pub fn begin(drive: &'a mut Drive, image: &'a Path) -> Result<Appending<'a>, Failure> {
         let files = catalogue(drive)?;
-        let open_end = files.last().is_some_and(|file| !file.closed);
+        let open_end = files.last().is_some_and(|file| !file.stretch.closed);
         let mut tape = Appending {
             drive,
             image,
