@@ -9,7 +9,6 @@ use borrow.Author.Tests.{eq-eqb, eqb-true}
 use lib.Dec.{eqb}
 use lib.ListN.{length, getD, take, drop, replicate, length-append, length-replicate, take-append-drop}
 use lib.Seq.{take-add, drop-drop}
-use Rattle.numbers.specs.Choice.{if_then_else_}
 use Rattle.numbers.specs.Counts.{countBytes}
 use Rattle.numbers.specs.Over.{over, part}
 use Rattle.numbers.specs.Same.{same}
@@ -22,11 +21,11 @@ use Rattle.image.specs.Header.{headerOf}
 use Rattle.image.proofs.HeaderLaws.{fields-are, sound}
 use Rattle.index.specs.declared.checking.Compared.{Compared}
 use Rattle.index.specs.declared.checking.Compared.the-variants.{Differs, Same}
-use Rattle.index.specs.Checking.{holdsEntries, comparedWith}
+use Rattle.index.specs.Checking.{holdsEntries, comparedWith, areBlank}
 use Rattle.index.specs.Entries.{marksFrom, filemarksOf, noFilemark, entriesOf, entryBytes, freshIndex, isFresh}
 use Rattle.index.specs.Spacing.{entryAt}
 use Rattle.index.proofs.EntryLaws.{entries-length}
-use Rattle.index.proofs.LoopLaws.{holds-none, holds-first, holds-append}
+use Rattle.index.proofs.LoopLaws.{holds-none, holds-first, holds-append, differs-by, same-by, blank-entries}
 use Rattle.index.proofs.MarkLaws.{marks-few}
 use Rattle.index.proofs.FreshLaws.{fresh-parted, entries-parted, entry-is, parted-length}
 
@@ -56,14 +55,6 @@ held-bytes index (e ∷ es) n b l h =
     ∙ ap (λ (xs : List ℕ). xs ++ take (4 * length es) (drop 4 (drop (4 * n) index))) first
     ∙ ap (λ (xs : List ℕ). countBytes 4 e ++ take (4 * length es) xs) (drop-drop 4 (4 * n) index)
     ∙ ap (λ (i : ℕ). countBytes 4 e ++ part index i (4 * length es)) z ∙ ap (λ (xs : List ℕ). countBytes 4 e ++ xs) rest
-
-differs-by : (b : Bool) (n : ℕ) → (if b then Same n else Differs) ≡ Differs → b ≡ false
-differs-by true n e = (cc)
-differs-by false n e = refl
-
-same-by : (b : Bool) (m n : ℕ) → (if b then Same m else Differs) ≡ Same n → (b ≡ true) × (n ≡ m)
-same-by true m n e = (refl, (cc))
-same-by false m n e = ((cc), (cc))
 
 module _ (s : List ℕ) (h : Header) (good : headerOf s ≡ Good h) where
   pub entries-count : length (entriesOf s) ≡ h .capacity
@@ -121,9 +112,12 @@ module _ (s : List ℕ) (h : Header) (good : headerOf s ≡ Good h) where
           t ∙ rw q at parts-are
 
       pub found-same : (x : Compared) (n : ℕ) (r : Bool) → x ≡ comparedWith index (marksFrom s (h .kinds) (h .recorded) 0) → x ≡ Same n
-          → r ≡ holdsEntries index n (replicate (h .capacity - n) noFilemark) → r ≡ isFresh s index
+          → r ≡ areBlank (part index (4 * n) (4 * h .capacity - 4 * n)) → r ≡ isFresh s index
       unfolding comparedWith
       found-same x n r e d t =
           let marks = marksFrom s (h .kinds) (h .recorded) 0 in
           let q = same-by (holdsEntries index 0 marks) (length marks) n (sym e ∙ d) in
-          t ∙ rw (q .1) (rw (q .0) at parts-are)
+          let z : 4 * h .capacity - 4 * n ≡ 4 * (h .capacity - n) = omega arith in
+          let b : areBlank (part index (4 * n) (4 * h .capacity - 4 * n)) ≡ holdsEntries index n (replicate (h .capacity - n) noFilemark) =
+          rw z (blank-entries index n (h .capacity - n) bytes (λ x. omega arith)) in
+          t ∙ b ∙ rw (q .1) (rw (q .0) at parts-are)

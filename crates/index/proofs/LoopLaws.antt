@@ -1,24 +1,24 @@
 -- The loops over an index, one entry at a time: what is left to do gives what the whole gives.
 -- Assumes nothing.
 use mathlib.Core.Path.{_≡_, refl, sym, ap, _∙_}
-use mathlib.Core.Bool.{Bool, true, false, not, _&&_, false≢true}
+use mathlib.Core.Bool.{Bool, true, false, _&&_, true≢false}
 use mathlib.Core.List.{List, [], _∷_, _++_}
 use Prim.Native.Nat.{ℕ, zero, suc, _+_, _*_, _-_, _<_, _≤_}
 use native.Mathlib.Omega.{arith}
-use borrow.Author.Tests.{lt-ltb, le-ltb, ltb-true, ltb-false, leb-true, leb-false, eq-eqb, ne-eqb}
+use borrow.Author.Tests.{lt-ltb, le-ltb, ltb-true, ltb-false, leb-true, leb-false, eq-eqb, eqb-true, eqb-false}
 use lib.Dec.{eqb, ltb, leb}
-use lib.ListN.{length, replicate}
+use lib.ListN.{length, getD, replicate}
 use Rattle.numbers.specs.Choice.{if_then_else_}
 use Rattle.numbers.specs.Counts.{putCount, countBytes}
-use Rattle.numbers.specs.Over.{over}
+use Rattle.numbers.specs.Over.{over, part}
 use Rattle.numbers.proofs.Cases.{test}
 use Rattle.numbers.proofs.CountLaws.{bytes-length, put-count-over, length-put-count}
-use Rattle.numbers.proofs.OverLaws.{over-more, over-none}
+use Rattle.numbers.proofs.OverLaws.{over-more, over-none, part-first}
 use Rattle.image.specs.declared.elements.Kind.{Kind}
 use Rattle.image.specs.Elements.{isFilemark, kindAt}
 use Rattle.index.specs.declared.checking.Compared.{Compared}
 use Rattle.index.specs.declared.checking.Compared.the-variants.{Differs, Same}
-use Rattle.index.specs.Checking.{holdsEntries, comparedWith}
+use Rattle.index.specs.Checking.{holdsEntries, comparedAt, comparedWith, areBlank}
 use Rattle.index.specs.Entries.{marksFrom, noFilemark, entryBytes}
 use Rattle.index.specs.Rewriting.{entriesPut}
 use Rattle.index.specs.Spacing.{entryAt, BelowFirst, AllBelow, entriesBelow}
@@ -215,6 +215,14 @@ put-both index mid new marks first last n l e a b =
 
 -- ---- entries compared
 
+and-true : (a : Bool) → a ≡ (a && true)
+and-true true = refl
+and-true false = refl
+
+and-assoc : (a b c : Bool) → (a && (b && c)) ≡ ((a && b) && c)
+and-assoc true b c = refl
+and-assoc false b c = refl
+
 pub holds-none : (index : List ℕ) (n : ℕ) → holdsEntries index n [] ≡ true
 unfolding holdsEntries
 holds-none index n = refl
@@ -229,29 +237,29 @@ holds-append index [] qs n = let z : n + 0 ≡ n = omega arith in rw (holds-none
 holds-append index (p ∷ ps) qs n =
     let z : n + suc (length ps) ≡ n + 1 + length ps = omega arith in
     rw (holds-first, holds-first, holds-append index ps qs (n + 1), z) (and-assoc (eqb (entryAt index n) p) _ _)
-  where
-    and-assoc : (a b c : Bool) → (a && (b && c)) ≡ ((a && b) && c)
-    and-assoc true b c = refl
-    and-assoc false b c = refl
 
--- place p is no filemark's, or entry n tells it
-place-holds : (mark differs : Bool) (index ps : List ℕ) (n p : ℕ) → differs ≡ (mark && not (eqb (entryAt index n) p)) → differs ≡ false
-    → holdsEntries index (if mark then n + 1 else n) ps ≡ holdsEntries index n (withPlace mark p ps)
-place-holds false differs index ps n p e q = refl
-place-holds true differs index ps n p e q = rw holds-first (of-not (eqb (entryAt index n) p) (holdsEntries index (n + 1) ps) (sym e ∙ q))
-  where
-    of-not : (t r : Bool) → not t ≡ false → r ≡ (t && r)
-    of-not true r x = refl
-    of-not false r x = absurd (false≢true (sym x))
+-- what a choice of the two was
+pub differs-by : (b : Bool) (n : ℕ) → (if b then Same n else Differs) ≡ Differs → b ≡ false
+differs-by true n e = (cc)
+differs-by false n e = refl
 
-place-differs : (mark differs : Bool) (index ps : List ℕ) (n p : ℕ) → differs ≡ (mark && not (eqb (entryAt index n) p)) → differs ≡ true
-    → holdsEntries index n (withPlace mark p ps) ≡ false
-place-differs false differs index ps n p e q = absurd (false≢true (sym e ∙ q))
-place-differs true differs index ps n p e q = rw holds-first (of-not (eqb (entryAt index n) p) (holdsEntries index (n + 1) ps) (sym e ∙ q))
-  where
-    of-not : (t r : Bool) → not t ≡ true → (t && r) ≡ false
-    of-not true r x = absurd (false≢true x)
-    of-not false r x = refl
+pub same-by : (b : Bool) (m n : ℕ) → (if b then Same m else Differs) ≡ Same n → (b ≡ true) × (n ≡ m)
+same-by true m n e = (refl, (cc))
+same-by false m n e = ((cc), (cc))
+
+-- place p agrees with entry n, and the rest is compared with those after it
+place-holds : (mark : Bool) (index ps : List ℕ) (n p next : ℕ) → comparedAt mark index n p ≡ Same next
+    → (next ≡ (if mark then n + 1 else n)) × (holdsEntries index next ps ≡ holdsEntries index n (withPlace mark p ps))
+unfolding comparedAt
+place-holds false index ps n p next e = let z : next ≡ n = same-by true n next e .1 in (z, rw z refl)
+place-holds true index ps n p next e =
+    let z = same-by (eqb (entryAt index n) p) (n + 1) next e in
+    (z .1, rw (z .1, holds-first, z .0) refl)
+
+place-differs : (mark : Bool) (index ps : List ℕ) (n p : ℕ) → comparedAt mark index n p ≡ Differs → holdsEntries index n (withPlace mark p ps) ≡ false
+unfolding comparedAt
+place-differs false index ps n p e = absurd (true≢false (differs-by true n e))
+place-differs true index ps n p e = rw (holds-first, differs-by (eqb (entryAt index n) p) (n + 1) e) refl
 
 -- filemarks compared as far as place `at`, up to entry n: H tells whether all agree, N is how many they are
 pub record Comparing (s : List ℕ) (kinds end : ℕ) (index : List ℕ) (H : Bool) (N at n : ℕ) : Type 0 where
@@ -261,30 +269,28 @@ pub record Comparing (s : List ℕ) (kinds end : ℕ) (index : List ℕ) (H : Bo
   pub count : n + length (ahead s kinds end at) ≡ N
 
 module _ (s : List ℕ) (kinds end : ℕ) (index : List ℕ) where
-  module _ (H : Bool) (N : ℕ) (at n : ℕ) (g : Comparing s kinds end index H N at n) (l : at < end)
-      (kind : Kind) (mark differs : Bool) (e : kind ≡ kindAt s kinds at) (q : mark ≡ isFilemark kind)
-      (d : differs ≡ (mark && not (eqb (entryAt index n) at))) where
-    pub compare-next : (next : ℕ) → differs ≡ false → next ≡ (if mark then n + 1 else n) → Comparing s kinds end index H N (at + 1) next
-    compare-next next t a =
-        let f = ahead-first s kinds end at kind mark l e q in
-        record {
-          within = omega arith;
-          few = rw a (next-few mark n at (g .few));
-          holds =
-              rw a (place-holds mark differs index (ahead s kinds end (at + 1)) n at d t)
-              ∙ ap (λ (ps : List ℕ). holdsEntries index n ps) (sym f) ∙ g .holds;
-          count = rw a (next-count mark (ahead s kinds end (at + 1)) n at) ∙ ap (λ (ps : List ℕ). n + length ps) (sym f) ∙ g .count;
-        }
-
-    pub compare-differs : differs ≡ true → H ≡ false
-    compare-differs t =
-        sym (g .holds) ∙ ap (λ (ps : List ℕ). holdsEntries index n ps) (ahead-first s kinds end at kind mark l e q)
-        ∙ place-differs mark differs index (ahead s kinds end (at + 1)) n at d t
-
   pub compare-start : Comparing s kinds end index (holdsEntries index 0 (marksFrom s kinds end 0)) (length (marksFrom s kinds end 0)) 0 0
   compare-start =
       let z : end - 0 ≡ end = omega arith in
       record { within = omega arith; few = omega arith; holds = rw z refl; count = rw z (omega arith) }
+
+  module _ (H : Bool) (N at n : ℕ) (kind : Kind) (mark : Bool) (x : Compared) (g : Comparing s kinds end index H N at n) (l : at < end)
+      (e : kind ≡ kindAt s kinds at) (q : mark ≡ isFilemark kind) (c : x ≡ comparedAt mark index n at) where
+    pub compare-next : (next : ℕ) → x ≡ Same next → Comparing s kinds end index H N (at + 1) next
+    compare-next next d =
+        let f = ahead-first s kinds end at kind mark l e q in
+        let z = place-holds mark index (ahead s kinds end (at + 1)) n at next (sym c ∙ d) in
+        record {
+          within = omega arith;
+          few = rw (z .0) (next-few mark n at (g .few));
+          holds = z .1 ∙ ap (λ (ps : List ℕ). holdsEntries index n ps) (sym f) ∙ g .holds;
+          count = rw (z .0) (next-count mark (ahead s kinds end (at + 1)) n at) ∙ ap (λ (ps : List ℕ). n + length ps) (sym f) ∙ g .count;
+        }
+
+    pub compare-differs : x ≡ Differs → H ≡ false
+    compare-differs d =
+        sym (g .holds) ∙ ap (λ (ps : List ℕ). holdsEntries index n ps) (ahead-first s kinds end at kind mark l e q)
+        ∙ place-differs mark index (ahead s kinds end (at + 1)) n at (sym c ∙ d)
 
   pub compare-done : (H : Bool) (N at n : ℕ) → Comparing s kinds end index H N at n → end ≤ at → (H ≡ true) × (n ≡ N)
   compare-done H N at n g l =
@@ -303,13 +309,71 @@ pub compared-same : (index marks : List ℕ) (n : ℕ) (r : Compared) → holdsE
 unfolding comparedWith
 compared-same index marks n r h q e = rw (h, e, q) refl
 
-module _ (index : List ℕ) (last : ℕ) (H : Bool) where
-  pub blanks-next : (n : ℕ) → holdsEntries index n (replicate (last - n) noFilemark) ≡ H → n < last → entryAt index n ≡ noFilemark
-      → holdsEntries index (n + 1) (replicate (last - (n + 1)) noFilemark) ≡ H
-  blanks-next n i l e = rw (blanks-first n last l, holds-first, eq-eqb (entryAt index n) noFilemark e) at i
+-- ---- bytes that are FFh
 
-  pub blanks-differ : (n : ℕ) → holdsEntries index n (replicate (last - n) noFilemark) ≡ H → n < last → (entryAt index n ≡ noFilemark → ⊥) → false ≡ H
-  blanks-differ n i l e = rw (blanks-first n last l, holds-first, ne-eqb (entryAt index n) noFilemark e) at i
+blank-first : (s : List ℕ) (p k : ℕ) → p < length s → areBlank (part s p (suc k)) ≡ (eqb (getD s p 0) 255 && areBlank (part s (p + 1) k))
+unfolding areBlank
+blank-first s p k l = rw (part-first s p k l) refl
 
-  pub blanks-done : (n : ℕ) → holdsEntries index n (replicate (last - n) noFilemark) ≡ H → last ≤ n → true ≡ H
-  blanks-done n i l = rw (blanks-none n last l, holds-none) at i
+-- the bytes from place `at` to the end, and what was found before them: H tells of all
+pub record Bytewise (index : List ℕ) (end : ℕ) (H : Bool) (at : ℕ) (blank : Bool) : Type 0 where
+  pub holds : (blank && areBlank (part index at (end - at))) ≡ H
+
+module _ (index : List ℕ) (end : ℕ) (H : Bool) where
+  pub byte-next : (at : ℕ) (blank : Bool) → Bytewise index end H at blank → at < end → end ≤ length index
+      → Bytewise index end H (at + 1) (blank && eqb (getD index at 0) 255)
+  byte-next at blank g l m =
+      let z : end - at ≡ suc (end - (at + 1)) = omega arith in
+      let e = ap (λ (k : ℕ). areBlank (part index at k)) z ∙ blank-first index at (end - (at + 1)) (omega arith) in
+      record {
+        holds =
+            sym (and-assoc blank (eqb (getD index at 0) 255) (areBlank (part index (at + 1) (end - (at + 1)))))
+            ∙ ap (λ (b : Bool). blank && b) (sym e) ∙ g .holds;
+      }
+
+  pub byte-done : (at : ℕ) (blank : Bool) → Bytewise index end H at blank → end ≤ at → blank ≡ H
+  unfolding areBlank
+  byte-done at blank g l =
+      let z : end - at ≡ 0 = omega arith in
+      and-true blank ∙ rw z at (g .holds)
+
+-- four bytes FFh are the entry that tells of no filemark
+four-blank : (a b c d : ℕ) (r : Bool) → a < 256 → b < 256 → c < 256 → d < 256
+    → (eqb a 255 && (eqb b 255 && (eqb c 255 && (eqb d 255 && r)))) ≡ (eqb (((a * 256 + b) * 256 + c) * 256 + d) noFilemark && r)
+four-blank a b c d r ha hb hc hd =
+    test (eqb (((a * 256 + b) * 256 + c) * 256 + d) noFilemark)
+    (λ t.
+    let e = eqb-true (((a * 256 + b) * 256 + c) * 256 + d) noFilemark t in
+    rw (t, eq-eqb a 255 (omega arith), eq-eqb b 255 (omega arith), eq-eqb c 255 (omega arith), eq-eqb d 255 (omega arith)) refl)
+    (λ t. rw t (by (eqb a 255) (eqb b 255) (eqb c 255) (eqb d 255) refl refl refl refl (eqb-false (((a * 256 + b) * 256 + c) * 256 + d) noFilemark t)))
+  where
+    by : (w x y z : Bool) → eqb a 255 ≡ w → eqb b 255 ≡ x → eqb c 255 ≡ y → eqb d 255 ≡ z
+        → (((a * 256 + b) * 256 + c) * 256 + d ≡ noFilemark → ⊥) → (w && (x && (y && (z && r)))) ≡ false
+    by true true true true p q s t f =
+        absurd (f (omega (arith, eqb-true a 255 p, eqb-true b 255 q, eqb-true c 255 s, eqb-true d 255 t)))
+    by false x y z p q s t f = refl
+    by true false y z p q s t f = refl
+    by true true false z p q s t f = refl
+    by true true true false p q s t f = refl
+
+-- so many entries that tell of none are bytes FFh
+pub blank-entries : (index : List ℕ) (n k : ℕ) → ((i : ℕ) → getD index i 0 < 256) → (0 < k → 4 * n + 4 * k ≤ length index)
+    → areBlank (part index (4 * n) (4 * k)) ≡ holdsEntries index n (replicate k noFilemark)
+unfolding areBlank
+blank-entries index n zero b l = sym (holds-none index n)
+blank-entries index n (suc k) b f =
+    let l = f (omega arith) in
+    let z : 4 * suc k ≡ suc (suc (suc (suc (4 * k)))) = omega arith in
+    let p : 4 * n + 1 + 1 + 1 + 1 ≡ 4 * (n + 1) = omega arith in
+    let p2 : 4 * n + 1 + 1 ≡ 4 * n + 2 = omega arith in
+    let p3 : 4 * n + 2 + 1 ≡ 4 * n + 3 = omega arith in
+    ap (λ (m : ℕ). areBlank (part index (4 * n) m)) z
+    ∙ blank-first index (4 * n) (suc (suc (suc (4 * k)))) (omega arith)
+    ∙ ap (λ (t : Bool). eqb (getD index (4 * n) 0) 255 && t) (blank-first index (4 * n + 1) (suc (suc (4 * k))) (omega arith))
+    ∙ ap (λ (t : Bool). eqb (getD index (4 * n) 0) 255 && (eqb (getD index (4 * n + 1) 0) 255 && t))
+    (blank-first index (4 * n + 1 + 1) (suc (4 * k)) (omega arith))
+    ∙ ap (λ (t : Bool). eqb (getD index (4 * n) 0) 255 && (eqb (getD index (4 * n + 1) 0) 255 && (eqb (getD index (4 * n + 1 + 1) 0) 255 && t)))
+    (blank-first index (4 * n + 1 + 1 + 1) (4 * k) (omega arith))
+    ∙ four-blank (getD index (4 * n) 0) (getD index (4 * n + 1) 0) (getD index (4 * n + 1 + 1) 0) (getD index (4 * n + 1 + 1 + 1) 0) _
+    (b _) (b _) (b _) (b _)
+    ∙ rw (p, p2, p3, blank-entries index (n + 1) k b (λ x. omega arith)) (sym (holds-first index (replicate k noFilemark) n noFilemark))

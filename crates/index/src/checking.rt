@@ -1,16 +1,13 @@
 // Refusals 9 and 10: an index that is too short, or differs from a fresh one.
 ghost use mathlib.Core.Path.{_≡_};
-ghost use mathlib.Core.Bool.{not, _&&_};
 ghost use Prim.Native.Nat.{_+_, _*_, _-_, _<_, _≤_};
-ghost use lib.Dec.{eqb, ltb};
-ghost use lib.ListN.{length, replicate};
-ghost use Rattle.numbers.specs.Choice.{if_then_else_};
+ghost use lib.Dec.{ltb};
+ghost use lib.ListN.{length};
+ghost use Rattle.numbers.specs.Over.{part};
 ghost use Rattle.image.specs.Header.{headerOf};
 ghost use Rattle.image.specs.declared.header.Judged.the-variants.{Good};
-ghost use Rattle.index.specs.Entries.{marksFrom, noFilemark, isFresh};
-ghost use Rattle.index.specs.Spacing.{entryAt};
-ghost use Rattle.index.specs.Checking.{holdsEntries, comparedWith};
-use crate::entries::NO_FILEMARK;
+ghost use Rattle.index.specs.Entries.{marksFrom, isFresh};
+ghost use Rattle.index.specs.Checking.{comparedAt, comparedWith, areBlank};
 use crate::entries::entry_at;
 use image::elements::is_filemark;
 use image::elements::kind_at;
@@ -28,22 +25,18 @@ pub fn is_short(index: &[u8], capacity: u32) -> bool
     index.len() < 4 * capacity as usize
 }
 
-// A filemark at place p that is not entry n.
-fn differs_at(index: &[u8], n: u32, p: u32, mark: bool) -> bool
-    requires { ⌜ 4 * n + 4 ≤ length (now index) ⌝ }
-    ensures { λ r. ⌜ r ≡ (mark && not (eqb (entryAt (now (index .entry)) n) p)) ⌝ }
+// Place p, where it is a filemark's, against entry n.
+fn compare_entry(index: &[u8], n: u32, p: u32, mark: bool) -> Compared
+    requires { ⌜ (4 * n + 4 ≤ length (now index)) × (n < 65535) ⌝ }
+    ensures { λ r. ⌜ r ≡ comparedAt mark (now (index .entry)) n p ⌝ }
 {
     if mark {
-        return entry_at(index, n) != p;
+        if entry_at(index, n) == p {
+            return Compared::Same(n + 1);
+        }
+        return Compared::Differs;
     }
-    false
-}
-
-fn next_entry(n: u32, mark: bool) -> u32
-    requires { ⌜ n < 65535 ⌝ }
-    ensures { λ r. ⌜ r ≡ (if mark then n + 1 else n) ⌝ }
-{
-    if mark { n + 1 } else { n }
+    Compared::Same(n)
 }
 
 // The kinds below the end are read once.
@@ -55,28 +48,27 @@ fn compare_marks(image: &[u8], kinds: u32, end: u32, index: &[u8]) -> Compared
     let mut n: u32 = 0;
     while at < end {
         let mark = is_filemark(kind_at(image, kinds, at));
-        let differs = differs_at(index, n, at, mark);
-        if differs {
+        let Compared::Same(next) = compare_entry(index, n, at, mark) else {
             return Compared::Differs;
-        }
-        n = next_entry(n, mark);
+        };
+        n = next;
         at = at + 1;
     }
     Compared::Same(n)
 }
 
-fn holds_blanks(index: &[u8], first: u32, last: u32) -> bool
-    requires { ⌜ (last ≤ 65535) × (4 * last ≤ length (now index)) ⌝ }
-    ensures { λ r. ⌜ r ≡ holdsEntries (now (index .entry)) first (replicate (last - first) noFilemark) ⌝ }
+// The bytes from place `from` to place `to` are FFh.
+fn are_blank(index: &[u8], from: usize, to: usize) -> bool
+    requires { ⌜ to ≤ length (now index) ⌝ }
+    ensures { λ r. ⌜ r ≡ areBlank (part (now (index .entry)) from (to - from)) ⌝ }
 {
-    let mut n = first;
-    while n < last {
-        if entry_at(index, n) != NO_FILEMARK {
-            return false;
-        }
-        n = n + 1;
+    let mut at = from;
+    let mut blank = true;
+    while at < to {
+        blank = blank & (index[at] == 0xff);
+        at = at + 1;
     }
-    true
+    blank
 }
 
 pub fn is_fresh(image: &[u8], h: Header, index: &[u8]) -> bool
@@ -87,6 +79,6 @@ pub fn is_fresh(image: &[u8], h: Header, index: &[u8]) -> bool
     let compared = compare_marks(image, h.kinds, h.recorded, index);
     match compared {
         Compared::Differs => false,
-        Compared::Same(n) => holds_blanks(index, n, h.capacity),
+        Compared::Same(n) => are_blank(index, 4 * n as usize, 4 * h.capacity as usize),
     }
 }

@@ -13,7 +13,7 @@ use image::elements::kind_at;
 use numbers::counts::count4;
 use numbers::counts::put_count4;
 
-pub const NO_FILEMARK: u32 = 0xffffffff;
+const NO_FILEMARK: u32 = 0xffffffff;
 
 pub fn entry_at(index: &[u8], j: u32) -> u32
     requires { ⌜ 4 * j + 4 ≤ length (now index) ⌝ }

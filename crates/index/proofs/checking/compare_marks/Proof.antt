@@ -23,21 +23,24 @@ loop-holds c = compare-start _ _ _ _
 kind-at-requires : tie.Need-kind-at-requires Inv-loop μ-loop
 kind-at-requires c κs = omega arith
 
-differs-at-requires : tie.Need-differs-at-requires Inv-loop μ-loop
-differs-at-requires c κs = omega arith
+compare-entry-requires : tie.Need-compare-entry-requires Inv-loop μ-loop
+compare-entry-requires c κs = omega arith
+
+enum-known-next : tie.Need-enum-known-next Inv-loop μ-loop
+enum-known-next c = omega arith
+
+enum-told : tie.Need-enum-told Inv-loop μ-loop
+enum-told c = omega arith
 
 returns : tie.Need-returns Inv-loop μ-loop
 returns c =
-    let d = c .before in
-    let m = d .before in
+    let x = c .before .before in
+    let m = x .before in
     let k = m .before in
     let l = k .before in
     compared-differs _ _ _
-    (compare-differs _ _ _ _ _ _ _ _ (l .before .loop .inv) (l .loop-test .taken) _ _ _ (k .kind-at .ensures) (m .is-filemark .ensures)
-    (d .differs-at .ensures) (c .if1 .taken)) refl
-
-next-entry-requires : tie.Need-next-entry-requires Inv-loop μ-loop
-next-entry-requires c κs = omega arith
+    (compare-differs _ _ _ _ _ _ _ _ _ _ _ (l .before .loop .inv) (l .loop-test .taken) (k .kind-at .ensures) (m .is-filemark .ensures)
+    (x .compare-entry .ensures) (c .enum-told .given .1)) refl
 
 add-at : tie.Need-add-at Inv-loop μ-loop
 add-at c = omega arith
@@ -47,12 +50,12 @@ loop-less c = omega arith
 
 loop-again : tie.Need-loop-again Inv-loop μ-loop
 loop-again c =
-    let d = c .before .before in
-    let m = d .before in
+    let x = c .before .before .before in
+    let m = x .before in
     let k = m .before in
     let l = k .before in
-    compare-next _ _ _ _ _ _ _ _ (l .before .loop .inv) (l .loop-test .taken) _ _ _ (k .kind-at .ensures) (m .is-filemark .ensures)
-    (d .differs-at .ensures) _ (c .before .if1 .left) (c .next-entry .ensures)
+    compare-next _ _ _ _ _ _ _ _ _ _ _ (l .before .loop .inv) (l .loop-test .taken) (k .kind-at .ensures) (m .is-filemark .ensures)
+    (x .compare-entry .ensures) _ (c .before .next .given .1)
 
 returns-2 : tie.Need-returns-2 Inv-loop μ-loop
 returns-2 c =
@@ -68,9 +71,10 @@ compare-marks-spec =
     loop-holds
     kind-at-requires
     (λ c κs. tt)
-    differs-at-requires
+    compare-entry-requires
+    enum-known-next
+    enum-told
     returns
-    next-entry-requires
     add-at
     loop-less
     loop-again
