@@ -42,6 +42,18 @@ impl Side {
         let all = [&self.record, &self.image, &self.data, &self.answer];
         all.iter().all(|part| part.guards_hold())
     }
+
+    /// The first part that is another on the other side.
+    pub fn differing_from(&self, other: &Side) -> Option<&'static str> {
+        let parts = [
+            ("the answer", &self.answer, &other.answer),
+            ("the record", &self.record, &other.record),
+            ("the image", &self.image, &other.image),
+            ("the data buffer", &self.data, &other.data),
+        ];
+        let differs = |(_, own, its): &(_, &Guarded, &Guarded)| own.bytes() != its.bytes();
+        parts.into_iter().find(differs).map(|(what, ..)| what)
+    }
 }
 
 /// Whether the blocks that a READ copied were marked.
@@ -309,20 +321,10 @@ impl<const RECORD: usize> ImageBench<RECORD> {
     }
 
     pub(crate) fn compare(&self, call: &str, data_before: &[u8]) -> Result<(), Box<Difference>> {
-        let engine = &self.engine;
-        let model = &self.model;
-        let what = if engine.answer.bytes() != model.answer.bytes() {
-            "the answer"
-        } else if engine.record.bytes() != model.record.bytes() {
-            "the record"
-        } else if engine.image.bytes() != model.image.bytes() {
-            "the image"
-        } else if engine.data.bytes() != model.data.bytes() {
-            "the data buffer"
-        } else if !engine.guards_hold() {
-            "the bytes around a buffer"
-        } else {
-            return Ok(());
+        let what = match self.engine.differing_from(&self.model) {
+            Some(part) => part,
+            None if !self.engine.guards_hold() => "the bytes around a buffer",
+            None => return Ok(()),
         };
         Err(self.difference(what, call, data_before))
     }

@@ -269,22 +269,12 @@ impl IndexBench {
     }
 
     fn compare(&self, call: &str, data_before: &[u8]) -> Result<(), Box<Difference>> {
-        let engine = &self.engine;
-        let model = &self.model;
-        let what = if engine.answer.bytes() != model.answer.bytes() {
-            "the answer"
-        } else if engine.record.bytes() != model.record.bytes() {
-            "the record"
-        } else if engine.image.bytes() != model.image.bytes() {
-            "the image"
-        } else if self.engine_index.bytes() != self.model_index.bytes() {
-            "the index"
-        } else if engine.data.bytes() != model.data.bytes() {
-            "the data buffer"
-        } else if !engine.guards_hold() || !self.engine_index.guards_hold() {
-            "the bytes around a buffer"
-        } else {
-            return Ok(());
+        let guards_hold = self.engine.guards_hold() && self.engine_index.guards_hold();
+        let what = match self.engine.differing_from(&self.model) {
+            Some(part) => part,
+            None if self.engine_index.bytes() != self.model_index.bytes() => "the index",
+            None if !guards_hold => "the bytes around a buffer",
+            None => return Ok(()),
         };
         Err(self.difference(what, call, data_before))
     }
