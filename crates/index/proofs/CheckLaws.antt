@@ -50,7 +50,8 @@ held-bytes index (e ∷ es) n b l h =
     let y : 4 * suc (length es) ≡ 4 + 4 * length es = omega arith in
     let z : 4 * n + 4 ≡ 4 * (n + 1) = omega arith in
     let first : take 4 (drop (4 * n) index) ≡ countBytes 4 e = sym (bytes-of-count index (4 * n) 4 b (omega arith)) ∙ ap (λ (v : ℕ). countBytes 4 v) x in
-    let rest : part index (4 * (n + 1)) (4 * length es) ≡ entryBytes es = held-bytes index es (n + 1) b (omega arith) (and-r (eqb (entryAt index n) e) (holdsEntries index (n + 1) es) t) in
+    let rest : part index (4 * (n + 1)) (4 * length es) ≡ entryBytes es =
+    held-bytes index es (n + 1) b (omega arith) (and-r (eqb (entryAt index n) e) (holdsEntries index (n + 1) es) t) in
     ap (λ (m : ℕ). take m (drop (4 * n) index)) y ∙ take-add 4 (4 * length es) (drop (4 * n) index)
     ∙ ap (λ (xs : List ℕ). xs ++ take (4 * length es) (drop 4 (drop (4 * n) index))) first
     ∙ ap (λ (xs : List ℕ). countBytes 4 e ++ take (4 * length es) xs) (drop-drop 4 (4 * n) index)

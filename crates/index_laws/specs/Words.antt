@@ -18,8 +18,8 @@ module _ (s index : List ℕ) (st : State) (packet buf : List ℕ) where
   abbrev pub PassesThree : Type 0
   PassesThree = Passes streamDevice s st packet buf
 
-  -- 02, A4: "Refusals: 9, index buffer shorter than four times the capacity; 10, index differs from a fresh one; in that order after 3.", then the number that the
-  -- packet is given without the index
+  -- 02, A4: "Refusals: 9, index buffer shorter than four times the capacity; 10, index differs from a fresh one; in that order after 3.", then the number that
+  -- the packet is given without the index
   pub data DueBeside : ℕ → Type 0 where
     up-to-three : (n : ℕ) → (PassesThree → ⊥) → Due streamDevice s st packet buf n → DueBeside n
     short-index : PassesThree → length index < indexLength s → DueBeside shortIndex

@@ -85,7 +85,8 @@ over-more s xs ys a h =
     let rest = drop (length xs) (drop a s) in
     let front = take a s ++ xs in
     let n : length front ≡ a + length xs = rw length-append (omega (arith, length-take-le a s (omega arith))) in
-    rw (← append-assoc (take a s) xs rest, take-at front rest (a + length xs) n, drop-at front rest (a + length xs) n, length-append, ← drop-drop (length ys) (length xs) (drop a s))
+    let k = a + length xs in
+    rw (← append-assoc (take a s) xs rest, take-at front rest k n, drop-at front rest k n, length-append, ← drop-drop (length ys) (length xs) (drop a s))
     (append-assoc (take a s) xs (ys ++ drop (length ys) rest) ∙ ap (λ (l : List ℕ). take a s ++ l) (sym (append-assoc xs ys (drop (length ys) rest))))
 
 -- laid over what follows a front

@@ -33,7 +33,8 @@ same-length c = search needs
 returns : tie.Need-returns
 returns c =
     let a = c .before .before .before .before in
-    by-index _ _ _ _ _ _ (a .before .before .before .before .before .before .before .pre) _ _ _ _ _ (a .before .before .request-of .ensures .0) (a .before .verdict .ensures)
+    let q = a .before .before in
+    by-index _ _ _ _ _ _ (q .before .before .before .before .before .pre) _ _ _ _ _ (q .request-of .ensures .0) (a .before .verdict .ensures)
     (a .by-entries .ensures) (c .before .before .before .if1 .taken) (c .before .run-by-entries .ensures) (c .end-space .ensures)
 
 rewrite-requires : tie.Need-rewrite-requires
@@ -41,7 +42,8 @@ rewrite-requires c κs =
     let k = c .before .before .before .before .before .before .before .before .before .before .before in
     let q = k .before .before .before .before .before .before in
     let b = q .before .before .before .before .before .pre in
-    let z = stored _ _ _ _ _ _ b _ _ _ _ _ (q .request-of .ensures .0) (k .packet .ensures) (c .before .before .before .before .stores-on .ensures) (c .before .before .if2 .taken) in
+    let z = stored _ _ _ _ _ _ b _ _ _ _ _ (q .request-of .ensures .0) (k .packet .ensures) (c .before .before .before .before .stores-on .ensures)
+    (c .before .before .if2 .taken) in
     let g = sound _ _ (b .header) in
     let w = sound _ _ (z .header) in
     let p = stands _ _ _ _ _ [] b in (
@@ -60,10 +62,11 @@ same-length-4 c = search needs
 
 returns-2 : tie.Need-returns-2
 returns-2 c =
-    let k = c .before .before .before .before .before .before .before .before .before .before .before .before .before .before in
+    let i = c .before .before .before .before .before in
+    let k = i .before .before .before .before .before .before .before .before .before in
     let q = k .before .before .before .before .before .before in
     let b = q .before .before .before .before .before .pre in
-    let z = stored _ _ _ _ _ _ b _ _ _ _ _ (q .request-of .ensures .0) (k .packet .ensures) (c .before .before .before .before .before .before .before .stores-on .ensures) (c .before .before .before .before .before .if2 .taken) in
+    let z = stored _ _ _ _ _ _ b _ _ _ _ _ (q .request-of .ensures .0) (k .packet .ensures) (i .before .before .stores-on .ensures) (i .if2 .taken) in
     rewrote _ _ _ _ _ _ b _ _ _ _ (k .packet .ensures) z (c .before .before .rewrite .ensures)
 
 same-length-5 : tie.Need-same-length-5
@@ -76,8 +79,8 @@ returns-3 : tie.Need-returns-3
 returns-3 c =
     let k = c .before .before .before .before .before .before .before .before .before in
     let q = k .before .before .before .before .before .before in
-    not-stored _ _ _ _ _ _ (q .before .before .before .before .before .pre) _ _ _ _ _ (q .request-of .ensures .0) (k .packet .ensures) (c .before .before .stores-on .ensures)
-    (c .if2 .left)
+    not-stored _ _ _ _ _ _ (q .before .before .before .before .before .pre) _ _ _ _ _ (q .request-of .ensures .0) (k .packet .ensures)
+    (c .before .before .stores-on .ensures) (c .if2 .left)
 
 pub keep-spec : {M : Type 1} → statement M
 keep-spec =
