@@ -54,7 +54,7 @@ pub record Indexed : Type 0 where
 abbrev pub indexed : Left State → List ℕ → Indexed
 indexed x index = record { left = x; index = index }
 
--- "After every packet not refused it equals the index made afresh from the image"
+-- "After every packet not refused it equals the index made afresh from the image"; one that 4 refuses leaves the image, and so the index, which was fresh
 abbrev pub afresh : List ℕ → Left State → Indexed
 afresh index x = indexed x (freshIndex (x .image) index)
 
