@@ -4,3 +4,4 @@ pub mod CommandLaws
 pub mod TrainLaws
 pub mod CallLaws
 pub mod WaitLaws
+pub mod TrainsLaws

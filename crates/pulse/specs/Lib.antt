@@ -7,3 +7,4 @@ pub mod Commands
 pub mod Train
 pub mod Events
 pub mod Calls
+pub mod Trains

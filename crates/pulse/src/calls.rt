@@ -9,13 +9,13 @@ use pulse_parts::Cartridge;
 
 const NOT_REFUSED: u8 = 0;
 
-const EMPTY_TRAIN: u8 = 5;
+pub(crate) const EMPTY_TRAIN: u8 = 5;
 
 const OUTSIDE_RANGES: u8 = 6;
 
 const ALREADY_SO: u8 = 7;
 
-const RULES_BROKEN: u8 = 8;
+pub(crate) const RULES_BROKEN: u8 = 8;
 
 pub struct Step {
     pub number: u8,
@@ -31,7 +31,7 @@ pub struct Waited {
 }
 
 impl Drive {
-    fn refuse(self, number: u8) -> Step
+    pub(crate) fn refuse(self, number: u8) -> Step
         ensures { λ r. ⌜ r ≡ refused self number ⌝ }
     {
         Step {
@@ -41,7 +41,7 @@ impl Drive {
         }
     }
 
-    fn accept(self) -> Step
+    pub(crate) fn accept(self) -> Step
         ensures { λ r. ⌜ r ≡ accepted self ⌝ }
     {
         Step {

@@ -8,6 +8,7 @@ mod commands; // commands.rt: step 7
 mod train; // train.rt: the seven steps
 mod events; // events.rt: insertion, removal, waiting
 pub mod calls; // calls.rt: the public calls and their refusals
+mod trains; // trains.rt: a list of trains in one call
 
 pub use calls::Step;
 pub use calls::Waited;
