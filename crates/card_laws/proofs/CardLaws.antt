@@ -6,7 +6,7 @@ use mathlib.Core.List.{List}
 use Prim.Native.Nat.{ℕ}
 use borrow.Author.Tests.{ne-eqb}
 use Rattle.tapecard.proofs.Settling.{fresh-settled, change-settled, packet-settled, power-on-settled, train-settled, tick-settled}
-use Rattle.tapecard.proofs.Settling.{insert-settled, remove-settled, wait-settled}
+use Rattle.tapecard.proofs.Settling.{insert-settled, remove-settled, wait-settled, trains-settled}
 use Rattle.tapecard.proofs.Settling.{index-make-settled, index-packet-settled}
 use Rattle.tapecard.proofs.Settling.{floppy-fresh-settled, floppy-change-settled, floppy-packet-settled}
 use Rattle.numbers.proofs.SameLaws.{same-of}
@@ -154,4 +154,5 @@ settled =
       insert = insert-settled;
       remove = remove-settled;
       wait = wait-settled;
+      trains = trains-settled;
     }

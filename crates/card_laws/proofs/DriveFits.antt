@@ -2,10 +2,11 @@
 -- Assumes nothing.
 use mathlib.Core.Path.{_≡_, refl}
 use mathlib.Core.Bool.{Bool, true, false, not, _&&_, _||_}
+use mathlib.Core.List.{List, [], _∷_}
 use Prim.Native.Nat.{ℕ, zero, suc, _+_, _-_, _^_, _<_, _≤_}
 use native.Mathlib.Nat.{pow-le-pow-right, zero-lt-suc}
 use native.Mathlib.Omega.{arith}
-use borrow.Author.Tests.{ne-eqb, leb-true, leb-false, ltb-true, ltb-false, not-false}
+use borrow.Author.Tests.{eqb-true, eqb-false, ne-eqb, leb-true, leb-false, ltb-true, ltb-false, not-false}
 use Rattle.numbers.specs.Choice.{_≡ᵇ_, _<ᵇ_, _≤ᵇ_}
 use Rattle.numbers.proofs.Cases.{ands, either, test}
 use Rattle.numbers.proofs.MemberLaws.{largest, in-largest}
@@ -31,7 +32,7 @@ use Rattle.pulse.specs.declared.calls.Step.{Step}
 use Rattle.pulse.specs.declared.calls.Waited.{Waited}
 use Rattle.pulse.specs.declared.drive.Drive.{Drive}
 use Rattle.pulse.specs.Arguments.{argumentFor, argumentOr, argumentRead, argumentTaken, nibbleTaken, skipped, stepArgument, trackSought}
-use Rattle.pulse.specs.Calls.{insertCall, removeCall, tickCall, trainCall, waitCall}
+use Rattle.pulse.specs.Calls.{insertCall, notRefused, removeCall, tickCall, trainCall, waitCall}
 use Rattle.pulse.specs.Commands.{checked, obeyed, stepCommand}
 use Rattle.pulse.specs.Drives.{isReady, powerOn, withFault, withLevel, withReport, withWaiting, withoutArguments}
 use Rattle.pulse.specs.Events.{exchanged, inserted, removed, runFor, stepsTo}
@@ -39,8 +40,12 @@ use Rattle.pulse.specs.Motions.{arrived, latched, loadStarted, runStarted, stop
 use Rattle.pulse.specs.Reports.{errorRead, itemGiven, opened, reportBroken, reportOf, statusAsked, stepOpenReport, stepReport}
 use Rattle.pulse.specs.Rules.{maxFormat, maxKind}
 use Rattle.pulse.specs.Train.{cleared, stepReset, stepUnsupported, trainStep}
+use Rattle.pulse.specs.Trains.{trainsCall}
+use Rattle.pulse_laws.specs.Runs.{afterTrains}
+use Rattle.pulse_laws.proofs.Answers.{refused-keeps}
 use Rattle.pulse_laws.proofs.Calls.{insert-by, remove-by, tick-by, train-by, wait-by}
 use Rattle.pulse_laws.proofs.Commands.{supported-low}
+use Rattle.pulse_laws.proofs.Lists.{list-is-singles}
 use Rattle.pulse_laws.proofs.Motion.{ended}
 use Rattle.pulse_laws.proofs.Rules.{Calm, Cart, bare, full, to-rules}
 use Rattle.pulse_laws.proofs.Steps.{Taken, by-argument, by-command, by-next-bit, by-unsupported, by-opening, by-report, by-reset, train-taken}
@@ -337,3 +342,17 @@ module _ (d : Drive) (f : FitsBytes d) where
   wait-fits limit =
       wait-by (λ (w : Waited). FitsBytes (w .drive)) d limit (λ p. f)
       (λ p. of-fit (runFor (stepsTo limit d) d) (ticks-fit (stepsTo limit d) d (to-fit d f)))
+
+-- ---- a list of trains, which is its trains sent singly
+
+all-fit : (d : Drive) (ns : List ℕ) → FitsBytes d → FitsBytes (afterTrains d ns)
+unfolding afterTrains
+all-fit d [] f = f
+all-fit d (n ∷ ns) f = all-fit (trainCall d n .drive) ns (train-fits d f n)
+
+pub trains-fits : (d : Drive) (counts levels : List ℕ) → FitsBytes d → FitsBytes (trainsCall d counts levels .step .drive)
+trains-fits d counts levels f =
+    let x = trainsCall d counts levels in
+    test (x .step .number ≡ᵇ notRefused)
+    (λ e. rw (list-is-singles d counts levels (eqb-true _ _ e) .drive) (all-fit d counts f))
+    (λ e. rw (refused-keeps .trains d counts levels (eqb-false _ _ e)) f)

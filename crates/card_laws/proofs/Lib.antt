@@ -11,4 +11,5 @@ pub mod FloppyFollowing
 pub mod FloppyBytes
 pub mod Locking
 pub mod Recovering
+pub mod Lists
 pub mod CardLaws

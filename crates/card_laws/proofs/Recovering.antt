@@ -6,7 +6,7 @@ use Prim.Native.Nat.{ℕ, zero, suc}
 use native.Mathlib.Nat.{le-refl}
 use Rattle.pulse.specs.declared.drive.Drive.{Drive}
 use Rattle.pulse.specs.Calls.{tickCall, trainCall}
-use Rattle.pulse_laws.specs.Runs.{afterPaced, afterTicks, pacedAnswers, recoveryTrains, silentTicks}
+use Rattle.pulse_laws.specs.Runs.{afterPaced, afterTicks, afterTrains, answers, pacedAnswers, recoveryTrains, silentTicks}
 use Rattle.pulse_laws.proofs.Recovery.{no-pauses, recovers-at-any-pace}
 use Rattle.pulse_record.specs.PulseRecord.{decodeDrive}
 use Rattle.tapecard.specs.PulseCalls.{pulseLeft, pulseTrain}
@@ -14,12 +14,12 @@ use Rattle.card_laws.specs.Promises.{Bytes, CardRecovers, CardRecoversAt
 use Rattle.card_laws.specs.Sessions.{answersOn, pacedAnswersOn, pacedOn, ticksOn, told, trainsOn}
 use Rattle.card_laws.proofs.PulseFollowing.{pulse-follows, stays-bytes}
 
-ticks-bytes : (k : ℕ) (state : List ℕ) → Bytes state → Bytes (ticksOn k state)
+pub ticks-bytes : (k : ℕ) (state : List ℕ) → Bytes state → Bytes (ticksOn k state)
 unfolding ticksOn
 ticks-bytes zero state b = b
 ticks-bytes (suc k) state b = stays-bytes .tick (ticksOn k state) (ticks-bytes k state b)
 
-ticks-follow : (k : ℕ) (state : List ℕ) → Bytes state → decodeDrive (ticksOn k state) ≡ afterTicks k (decodeDrive state)
+pub ticks-follow : (k : ℕ) (state : List ℕ) → Bytes state → decodeDrive (ticksOn k state) ≡ afterTicks k (decodeDrive state)
 unfolding ticksOn afterTicks
 ticks-follow zero state b = refl
 ticks-follow (suc k) state b =
@@ -64,6 +64,13 @@ no-pauses-on state [] = (refl, refl)
 no-pauses-on state (n ∷ ns) =
     let r = no-pauses-on (pulseTrain state n .state) ns in
     (r .0, ap (λ (l : List (List ℕ)). pulseTrain state n .answer ∷ l) (r .1))
+
+-- trains sent one by one
+pub trains-follow : (ns state : List ℕ) → Bytes state → decodeDrive (trainsOn state ns) ≡ afterTrains (decodeDrive state) ns
+trains-follow ns state b = rw (← no-pauses-on state ns .0, ← no-pauses (decodeDrive state) ns .1) (paced-follow (λ i. 0) ns state b)
+
+pub singles-follow : (ns state : List ℕ) → Bytes state → answersOn state ns ≡ map told (answers (decodeDrive state) ns)
+singles-follow ns state b = rw (← no-pauses-on state ns .1, ← no-pauses (decodeDrive state) ns .0) (answers-follow (λ i. 0) ns state b)
 
 pub card-recovers : CardRecovers
 card-recovers state b rules inside =

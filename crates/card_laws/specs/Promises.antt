@@ -13,6 +13,7 @@ use Rattle.pulse.specs.declared.drive.Drive.{Drive}
 use Rattle.pulse.specs.Calls.{trainCall, tickCall, insertCall, removeCall, waitCall}
 use Rattle.pulse.specs.Drives.{powerOn}
 use Rattle.pulse.specs.Rules.{keepsRules}
+use Rattle.pulse.specs.Trains.{trainsCall}
 use Rattle.pulse_laws.specs.Demands.{Recovered, Regained}
 use Rattle.pulse_laws.specs.Runs.{answers, pacedAnswers, recoveryTrains, silentTicks}
 use Rattle.card_laws.specs.Sessions.{answersOn, pacedAnswersOn, pacedOn, ticksOn, told, trainsOn}
@@ -34,8 +35,9 @@ use Rattle.tapecard.specs.IndexCalls.{indexCard, indexMakeCall, indexPacketCall
 use Rattle.tapecard.specs.FloppyCalls.{floppyCard, floppyFreshCall, floppyChangeCall, floppyPacketCall}
 use Rattle.tapecard.specs.FloppyCalls.{FloppyFreshPromise, FloppyChangePromise, FloppyCallPromise}
 use Rattle.pulse_record.specs.PulseRecord.{decodeDrive, encodeDrive, describedCartridge, describedPlace}
-use Rattle.tapecard.specs.PulseCalls.{PulseCard, pulsePowerOn, pulseTrain, pulseTick, pulseInsert, pulseRemove, pulseWait}
-use Rattle.tapecard.specs.PulseCalls.{PulsePowerOnPromise, PulseTrainPromise, PulseTickPromise, PulseInsertPromise, PulseRemovePromise, PulseWaitPromise}
+use Rattle.tapecard.specs.PulseCalls.{PulseCard, pulsePowerOn, pulseTrain, pulseTrains, pulseTick, pulseInsert, pulseRemove, pulseWait}
+use Rattle.tapecard.specs.PulseCalls.{PulsePowerOnPromise, PulseTrainPromise, PulseTrainsPromise, PulseTickPromise, PulseInsertPromise}
+use Rattle.tapecard.specs.PulseCalls.{PulseRemovePromise, PulseWaitPromise}
 
 -- ---- "A refused call (number not 0) leaves the record's bytes, the image and every buffer exactly as they were; only the answer is written."
 
@@ -168,6 +170,8 @@ pub record PulseFollows : Type 0 where
       → decodeDrive (pulseInsert state cartridge .state) ≡ insertCall (decodeDrive state) (describedCartridge cartridge) (describedPlace cartridge) .drive
   pub remove : (state : List ℕ) → Bytes state → decodeDrive (pulseRemove state .state) ≡ removeCall (decodeDrive state) .drive
   pub wait : (state : List ℕ) (limit : ℕ) → Bytes state → decodeDrive (pulseWait state limit .state) ≡ waitCall (decodeDrive state) limit .drive
+  pub trains : (state counts levels : List ℕ) → Bytes state
+      → decodeDrive (pulseTrains state counts levels .card .state) ≡ trainsCall (decodeDrive state) counts levels .step .drive
 
 -- and what they leave are bytes again, so this holds call after call
 pub record StaysBytes : Type 0 where
@@ -177,6 +181,8 @@ pub record StaysBytes : Type 0 where
   pub insert : (state cartridge : List ℕ) → Bytes state → Bytes (pulseInsert state cartridge .state)
   pub remove : (state : List ℕ) → Bytes state → Bytes (pulseRemove state .state)
   pub wait : (state : List ℕ) (limit : ℕ) → Bytes state → Bytes (pulseWait state limit .state)
+  pub trains : (state counts levels : List ℕ) → Bytes state → Bytes (pulseTrains state counts levels .card .state)
+  pub levels : (state counts levels : List ℕ) → Bytes levels → Bytes (pulseTrains state counts levels .levels)
 
 -- and so with the packet drive's record; its answer is bytes too
 pub record PacketStaysBytes : Type 0 where
@@ -299,3 +305,4 @@ pub record Settled : Type 0 where
   pub insert : (state cartridge : List ℕ) → Settles (PulseInsertPromise state cartridge)
   pub remove : (state : List ℕ) → Settles (PulseRemovePromise state)
   pub wait : (state : List ℕ) (limit : ℕ) → Settles (PulseWaitPromise state limit)
+  pub trains : (state counts levels : List ℕ) → Settles (PulseTrainsPromise state counts levels)

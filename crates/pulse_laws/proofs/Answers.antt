@@ -1,20 +1,25 @@
 -- Refusals, their numbers, and one outcome for each call.
 -- Assumes nothing.
-use Prim.Native.Nat.{ℕ}
+use Prim.Native.Nat.{ℕ, _<_}
 use native.Mathlib.Omega.{arith}
 use mathlib.Core.Bool.{Bool, true, false, not, cond, true≢false, false≢true}
+use mathlib.Core.List.{List}
 use mathlib.Core.Logic.{_≢_}
 use mathlib.Core.Path.{_≡_, refl, sym}
-use Rattle.numbers.specs.Choice.{_≡ᵇ_}
+use lib.ListN.{length}
+use Rattle.numbers.specs.Choice.{_≡ᵇ_, _<ᵇ_}
+use Rattle.numbers.specs.Member.{isIn}
 use Rattle.numbers.proofs.Cases.{settles}
 use Rattle.pulse_parts.specs.declared.cartridge.Cartridge.{Cartridge}
 use Rattle.pulse.specs.declared.calls.Step.{Step}
 use Rattle.pulse.specs.declared.calls.Waited.{Waited}
 use Rattle.pulse.specs.declared.drive.Drive.{Drive}
-use Rattle.pulse.specs.Calls.{alreadySo, rulesBroken, emptyTrain, insertCall, notRefused, outsideRanges, removeCall, tickCall, trainCall, waitCall}
+use Rattle.pulse.specs.Calls.{alreadySo, rulesBroken, emptyTrain, insertCall, notRefused, outsideRanges, removeCall}
+use Rattle.pulse.specs.Calls.{refused, tickCall, trainCall, waitCall}
 use Rattle.pulse.specs.Drives.{powerOn}
 use Rattle.pulse.specs.Rules.{keepsRules}
-use Rattle.pulse_laws.proofs.Calls.{insert-by, remove-by, tick-by, train-by, wait-by}
+use Rattle.pulse.specs.Trains.{Sent, sent, shortLevels, trainsCall}
+use Rattle.pulse_laws.proofs.Calls.{insert-by, remove-by, tick-by, train-by, trains-by, wait-by}
 use Rattle.pulse_laws.specs.Demands.{NumberExactly, RefusedKeeps, Settled}
 use Rattle.pulse_laws.specs.Runs.{Exactly, KeepsIfRefused, outsideItsRanges}
 
@@ -39,41 +44,57 @@ WaitKeeps d w = w .number ≢ notRefused → (w .level ≡ false) × (w .ticks �
 wait-keeps : (d : Drive) (limit : ℕ) → WaitKeeps d (waitCall d limit)
 wait-keeps d limit = wait-by (WaitKeeps d) d limit (λ p k. (refl, refl, refl)) (λ p k. absurd (k refl))
 
+abbrev ListKeeps : Drive → List ℕ → Sent → Type 0
+ListKeeps d levels x = x .step .number ≢ notRefused → x ≡ sent (refused d (x .step .number)) levels
+
+trains-keeps : (d : Drive) (counts levels : List ℕ) → ListKeeps d levels (trainsCall d counts levels)
+trains-keeps d counts levels =
+    trains-by (ListKeeps d levels) d counts levels (λ p k. refl) (λ p z k. refl) (λ p z l k. refl) (λ p z l k. absurd (k refl))
+
 pub refused-keeps : RefusedKeeps
-refused-keeps = record { train = train-keeps; tick = tick-keeps; insert = insert-keeps; remove = remove-keeps; wait = wait-keeps }
+refused-keeps =
+    record { train = train-keeps; tick = tick-keeps; insert = insert-keeps; remove = remove-keeps; wait = wait-keeps; trains = trains-keeps }
 
 -- ---- the numbers
--- what 01's order picks
-abbrev picked : Bool → ℕ → Bool → Bool → ℕ
-picked broken second holds outside = cond broken rulesBroken (cond holds second (cond outside outsideRanges notRefused))
+-- what the order picks
+abbrev picked : Bool → ℕ → Bool → ℕ → Bool → ℕ
+picked broken second holds third last = cond broken rulesBroken (cond holds second (cond last third notRefused))
 
-exactly : (b : Bool) (k : ℕ) (h o : Bool) → k ≢ rulesBroken → k ≢ outsideRanges → k ≢ notRefused → Exactly (picked b k h o) b k h o
-exactly true k h o e s z =
+-- the numbers that an order can pick differ
+record Apart (second third : ℕ) : Type 0 where
+  eight-second : rulesBroken ≢ second
+  eight-third : rulesBroken ≢ third
+  second-third : second ≢ third
+  second-zero : second ≢ notRefused
+  third-zero : third ≢ notRefused
+
+exactly : (b : Bool) (k : ℕ) (h : Bool) (t : ℕ) (o : Bool) → Apart k t → Exactly (picked b k h t o) b k h t o
+exactly true k h t o a =
     record {
       eight = (λ p. refl, λ p. refl);
-      next = (λ p. absurd (e (sym p)), λ p. absurd (true≢false (p .0)));
-      six = (λ p. absurd (omega arith), λ p. absurd (true≢false (p .0)));
+      next = (λ p. absurd (a .eight-second p), λ p. absurd (true≢false (p .0)));
+      last = (λ p. absurd (a .eight-third p), λ p. absurd (true≢false (p .0)));
       zero = (λ p. absurd (omega arith), λ p. absurd (true≢false (p .0)));
     }
-exactly false k true o e s z =
+exactly false k true t o a =
     record {
-      eight = (λ p. absurd (e p), λ p. absurd (false≢true p));
+      eight = (λ p. absurd (a .eight-second (sym p)), λ p. absurd (false≢true p));
       next = (λ p. (refl, refl), λ p. refl);
-      six = (λ p. absurd (s p), λ p. absurd (true≢false (p .1)));
-      zero = (λ p. absurd (z p), λ p. absurd (true≢false (p .1)));
+      last = (λ p. absurd (a .second-third p), λ p. absurd (true≢false (p .1)));
+      zero = (λ p. absurd (a .second-zero p), λ p. absurd (true≢false (p .1)));
     }
-exactly false k false true e s z =
+exactly false k false t true a =
+    record {
+      eight = (λ p. absurd (a .eight-third (sym p)), λ p. absurd (false≢true p));
+      next = (λ p. absurd (a .second-third (sym p)), λ p. absurd (false≢true (p .1)));
+      last = (λ p. (refl, refl, refl), λ p. refl);
+      zero = (λ p. absurd (a .third-zero p), λ p. absurd (true≢false (p .2)));
+    }
+exactly false k false t false a =
     record {
       eight = (λ p. absurd (omega arith), λ p. absurd (false≢true p));
-      next = (λ p. absurd (s (sym p)), λ p. absurd (false≢true (p .1)));
-      six = (λ p. (refl, refl, refl), λ p. refl);
-      zero = (λ p. absurd (omega arith), λ p. absurd (true≢false (p .2)));
-    }
-exactly false k false false e s z =
-    record {
-      eight = (λ p. absurd (omega arith), λ p. absurd (false≢true p));
-      next = (λ p. absurd (z (sym p)), λ p. absurd (false≢true (p .1)));
-      six = (λ p. absurd (omega arith), λ p. absurd (false≢true (p .2)));
+      next = (λ p. absurd (a .second-zero (sym p)), λ p. absurd (false≢true (p .1)));
+      last = (λ p. absurd (a .third-zero (sym p)), λ p. absurd (false≢true (p .2)));
       zero = (λ p. (refl, refl, refl), λ p. refl);
     }
 
@@ -81,41 +102,63 @@ abbrev Number : ℕ → Step → Type 0
 Number k s = s .number ≡ k
 
 module _ (d : Drive) where
-  train-number : (n : ℕ) → trainCall d n .number ≡ picked (not (keepsRules d)) emptyTrain (n ≡ᵇ 0) false
+  train-number : (n : ℕ) → trainCall d n .number ≡ picked (not (keepsRules d)) emptyTrain (n ≡ᵇ 0) outsideRanges false
   train-number n =
-      train-by (Number (picked (not (keepsRules d)) emptyTrain (n ≡ᵇ 0) false)) d (λ p. rw p) n (λ p z. rw (p, z)) (λ p z. rw (p, z))
+      train-by (Number (picked (not (keepsRules d)) emptyTrain (n ≡ᵇ 0) outsideRanges false)) d (λ p. rw p) n (λ p z. rw (p, z)) (λ p z. rw (p, z))
 
-  tick-number : tickCall d .number ≡ picked (not (keepsRules d)) emptyTrain false false
-  tick-number = tick-by (Number (picked (not (keepsRules d)) emptyTrain false false)) d (λ p. rw p) (λ p. rw p)
+  tick-number : tickCall d .number ≡ picked (not (keepsRules d)) emptyTrain false outsideRanges false
+  tick-number = tick-by (Number (picked (not (keepsRules d)) emptyTrain false outsideRanges false)) d (λ p. rw p) (λ p. rw p)
 
   insert-number : (cart : Cartridge) (place : ℕ) →
-      insertCall d cart place .number ≡ picked (not (keepsRules d)) alreadySo (d .marks .inside) (outsideItsRanges cart place)
+      insertCall d cart place .number ≡ picked (not (keepsRules d)) alreadySo (d .marks .inside) outsideRanges (outsideItsRanges cart place)
   insert-number cart place =
-      insert-by (Number (picked (not (keepsRules d)) alreadySo (d .marks .inside) (outsideItsRanges cart place))) d (λ p. rw p) cart place
+      insert-by (Number (picked (not (keepsRules d)) alreadySo (d .marks .inside) outsideRanges (outsideItsRanges cart place))) d (λ p. rw p) cart place
       (λ p i. rw (p, i)) (λ p i o. rw (p, i, o)) (λ p i o. rw (p, i, o))
 
-  remove-number : removeCall d .number ≡ picked (not (keepsRules d)) alreadySo (not (d .marks .inside)) false
+  remove-number : removeCall d .number ≡ picked (not (keepsRules d)) alreadySo (not (d .marks .inside)) outsideRanges false
   remove-number =
-      remove-by (Number (picked (not (keepsRules d)) alreadySo (not (d .marks .inside)) false)) d (λ p. rw p) (λ p i. rw (p, i)) (λ p i. rw (p, i))
+      remove-by (Number (picked (not (keepsRules d)) alreadySo (not (d .marks .inside)) outsideRanges false)) d (λ p. rw p) (λ p i. rw (p, i))
+      (λ p i. rw (p, i))
 
-  wait-number : (limit : ℕ) → waitCall d limit .number ≡ picked (not (keepsRules d)) emptyTrain false false
+  wait-number : (limit : ℕ) → waitCall d limit .number ≡ picked (not (keepsRules d)) emptyTrain false outsideRanges false
   wait-number limit =
-      wait-by (λ (w : Waited). w .number ≡ picked (not (keepsRules d)) emptyTrain false false) d limit (λ p. rw p) (λ p. rw p)
+      wait-by (λ (w : Waited). w .number ≡ picked (not (keepsRules d)) emptyTrain false outsideRanges false) d limit (λ p. rw p) (λ p. rw p)
 
-five : (b h o : Bool) → Exactly (picked b emptyTrain h o) b emptyTrain h o
-five b h o = exactly b emptyTrain h o (λ p. omega arith) (λ p. omega arith) (λ p. omega arith)
+  trains-number : (counts levels : List ℕ) → trainsCall d counts levels .step .number
+      ≡ picked (not (keepsRules d)) emptyTrain (isIn 0 counts) shortLevels (length levels <ᵇ length counts)
+  trains-number counts levels =
+      trains-by
+      (λ (x : Sent). x .step .number ≡ picked (not (keepsRules d)) emptyTrain (isIn 0 counts) shortLevels (length levels <ᵇ length counts))
+      d counts levels (λ p. rw p) (λ p z. rw (p, z)) (λ p z l. rw (p, z, l)) (λ p z l. rw (p, z, l))
 
-seven : (b h o : Bool) → Exactly (picked b alreadySo h o) b alreadySo h o
-seven b h o = exactly b alreadySo h o (λ p. omega arith) (λ p. omega arith) (λ p. omega arith)
+apart : {k t : ℕ} → 0 < k → k < rulesBroken → 0 < t → t < rulesBroken → k ≢ t → Apart k t
+apart a b c d e =
+    record {
+      eight-second = λ p. omega arith;
+      eight-third = λ p. omega arith;
+      second-third = e;
+      second-zero = λ p. omega arith;
+      third-zero = λ p. omega arith;
+    }
+
+five-six : Apart emptyTrain outsideRanges
+five-six = apart (omega arith) (omega arith) (omega arith) (omega arith) (λ p. omega arith)
+
+seven-six : Apart alreadySo outsideRanges
+seven-six = apart (omega arith) (omega arith) (omega arith) (omega arith) (λ p. omega arith)
+
+five-four : Apart emptyTrain shortLevels
+five-four = apart (omega arith) (omega arith) (omega arith) (omega arith) (λ p. omega arith)
 
 pub number-exactly : NumberExactly
 number-exactly =
     record {
-      train = λ d n. rw (train-number d n) (five (not (keepsRules d)) (n ≡ᵇ 0) false);
-      tick = λ d. rw (tick-number d) (five (not (keepsRules d)) false false);
-      insert = λ d cart place. rw (insert-number d cart place) (seven (not (keepsRules d)) (d .marks .inside) (outsideItsRanges cart place));
-      remove = λ d. rw (remove-number d) (seven (not (keepsRules d)) (not (d .marks .inside)) false);
-      wait = λ d limit. rw (wait-number d limit) (five (not (keepsRules d)) false false);
+      train = λ d n. rw (train-number d n) (exactly _ _ _ _ _ five-six);
+      tick = λ d. rw (tick-number d) (exactly _ _ _ _ _ five-six);
+      insert = λ d cart place. rw (insert-number d cart place) (exactly _ _ _ _ _ seven-six);
+      remove = λ d. rw (remove-number d) (exactly _ _ _ _ _ seven-six);
+      wait = λ d limit. rw (wait-number d limit) (exactly _ _ _ _ _ five-six);
+      trains = λ d counts levels. rw (trains-number d counts levels) (exactly _ _ _ _ _ five-four);
     }
 
 -- ---- one outcome
@@ -128,4 +171,5 @@ settled =
       insert = λ d cart place. settles (insertCall d cart place);
       remove = λ d. settles (removeCall d);
       wait = λ d limit. settles (waitCall d limit);
+      trains = λ d counts levels. settles (trainsCall d counts levels);
     }

@@ -3,7 +3,11 @@
 use Prim.Native.Nat.{ℕ}
 use mathlib.Core.Bool.{true, false, not}
 use mathlib.Core.Path.{_≡_}
-use Rattle.numbers.specs.Choice.{_≡ᵇ_}
+use mathlib.Core.List.{List}
+use lib.ListN.{length}
+use Rattle.numbers.specs.Choice.{_≡ᵇ_, _<ᵇ_}
+use Rattle.numbers.specs.Member.{isIn}
+use Rattle.numbers.specs.Over.{over}
 use Rattle.numbers.proofs.Cases.{either}
 use Rattle.pulse_parts.specs.declared.cartridge.Cartridge.{Cartridge}
 use Rattle.pulse.specs.declared.calls.Step.{Step}
@@ -15,6 +19,7 @@ use Rattle.pulse.specs.Events.{inserted, removed, runFor, stepsTo}
 use Rattle.pulse.specs.Motions.{ticked}
 use Rattle.pulse.specs.Rules.{keepsRules}
 use Rattle.pulse.specs.Train.{trainStep}
+use Rattle.pulse.specs.Trains.{Sent, afterList, levelsOf, sent, shortLevels, trainsCall}
 use Rattle.pulse_laws.proofs.Rules.{Rules, of-rules}
 use Rattle.pulse_laws.specs.Runs.{outsideItsRanges}
 
@@ -47,6 +52,16 @@ pub wait-by : (P : Waited → Type 0) (d : Drive) (limit : ℕ) → (not (keepsR
     (not (keepsRules d) ≡ false → P (acceptedWait (stepsTo limit d) (runFor (stepsTo limit d) d))) → P (waitCall d limit)
 unfolding waitCall
 wait-by P d limit f g = either P (not (keepsRules d)) _ _ f g
+
+pub trains-by : (P : Sent → Type 0) (d : Drive) (counts levels : List ℕ) → (not (keepsRules d) ≡ true → P (sent (refused d rulesBroken) levels)) →
+    (not (keepsRules d) ≡ false → isIn 0 counts ≡ true → P (sent (refused d emptyTrain) levels)) →
+    (not (keepsRules d) ≡ false → isIn 0 counts ≡ false → (length levels <ᵇ length counts) ≡ true → P (sent (refused d shortLevels) levels)) →
+    (not (keepsRules d) ≡ false → isIn 0 counts ≡ false → (length levels <ᵇ length counts) ≡ false →
+    P (sent (accepted (afterList d counts)) (over levels 0 (levelsOf d counts)))) → P (trainsCall d counts levels)
+unfolding trainsCall
+trains-by P d counts levels f g h i =
+    either P (not (keepsRules d)) _ _ f
+    (λ e. either P (isIn 0 counts) _ _ (g e) (λ z. either P (length levels <ᵇ length counts) _ _ (h e z) (i e z)))
 
 -- ---- with a drive that keeps the rules
 module _ (d : Drive) (r : Rules d) where

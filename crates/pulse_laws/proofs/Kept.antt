@@ -2,6 +2,7 @@
 -- Assumes nothing.
 use Prim.Native.Nat.{ℕ}
 use mathlib.Core.Bool.{true}
+use mathlib.Core.List.{List, [], _∷_}
 use mathlib.Core.Path.{_≡_}
 use borrow.Author.Tests.{not-false}
 use Rattle.pulse_parts.specs.declared.cartridge.Cartridge.{Cartridge}
@@ -14,8 +15,9 @@ use Rattle.pulse.specs.Events.{inserted, removed, runFor, stepsTo}
 use Rattle.pulse.specs.Motions.{ticked}
 use Rattle.pulse.specs.Rules.{keepsRules}
 use Rattle.pulse.specs.Train.{trainStep}
-use Rattle.pulse_laws.proofs.Calls.{insert-by, remove-by, tick-by, train-by, wait-by}
-use Rattle.pulse_laws.proofs.Rules.{of-rules, to-rules}
+use Rattle.pulse.specs.Trains.{Sent, afterList, trainsCall}
+use Rattle.pulse_laws.proofs.Calls.{insert-by, remove-by, tick-by, train-by, trains-by, wait-by}
+use Rattle.pulse_laws.proofs.Rules.{Rules, of-rules, to-rules}
 use Rattle.pulse_laws.proofs.Trains.{insert-rules, power-rules, remove-rules, run-rules, tick-rules, train-rules}
 use Rattle.pulse_laws.specs.Demands.{RulesKept}
 use Rattle.pulse_laws.specs.Runs.{Reachable, at-power-on, by-insertion, by-removal, by-tick, by-train}
@@ -43,6 +45,16 @@ module _ (d : Drive) (e : keepsRules d ≡ true) where
       wait-by (λ (w : Waited). keepsRules (w .drive) ≡ true) d limit (λ p. e)
       (λ p. of-rules (runFor (stepsTo limit d) d) (run-rules (stepsTo limit d) d (to-rules d e)))
 
+pub list-rules : (d : Drive) (counts : List ℕ) → Rules d → Rules (afterList d counts)
+unfolding afterList
+list-rules d [] r = r
+list-rules d (n ∷ ns) r = list-rules (trainStep d n) ns (train-rules d n r)
+
+trains-kept : (d : Drive) (counts levels : List ℕ) → keepsRules d ≡ true → keepsRules (trainsCall d counts levels .step .drive) ≡ true
+trains-kept d counts levels e =
+    trains-by (λ (x : Sent). keepsRules (x .step .drive) ≡ true) d counts levels (λ p. e) (λ p z. e) (λ p z l. e)
+    (λ p z l. of-rules (afterList d counts) (list-rules d counts (to-rules d e)))
+
 pub rules-kept : RulesKept
 rules-kept =
     record {
@@ -52,6 +64,7 @@ rules-kept =
       insert = λ d cart place e. insert-kept d e cart place;
       remove = remove-kept;
       wait = λ d limit e. wait-kept d e limit;
+      trains = trains-kept;
     }
 
 pub reachable-keeps : {d : Drive} → Reachable d → keepsRules d ≡ true

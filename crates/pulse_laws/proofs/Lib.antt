@@ -15,3 +15,4 @@ pub mod Recovery
 pub mod Answers
 pub mod PlateTable
 pub mod Levels
+pub mod Lists

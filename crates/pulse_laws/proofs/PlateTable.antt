@@ -1,4 +1,4 @@
--- The table of plates, computed.
+-- The tables of plates, computed.
 -- Assumes nothing.
 use mathlib.Core.Path.{refl}
 use Rattle.numbers.specs.Member.{isIn}
@@ -12,7 +12,10 @@ use Rattle.pulse.specs.Motions.{latched, loadStarted, runStarted}
 use Rattle.pulse.specs.Reports.{errorRead, itemGiven, reportOf, statusAsked, stepOpenReport, stepReport}
 use Rattle.pulse.specs.Rules.{cartridgeFits, keepsRules}
 use Rattle.pulse.specs.Train.{stepReset, stepUnsupported, trainStep}
+use Rattle.pulse.specs.Trains.{afterList, levelsOf, trainsCall}
 use Rattle.pulse_laws.specs.Demands.{PlatesPrint}
+use Rattle.pulse_laws.specs.ListPlates.{allAnswer, answersAs}
+use Rattle.pulse_laws.specs.Lists.{ListPlatesAnswer}
 use Rattle.pulse_laws.specs.Plates.{allPrint, prints}
 use Rattle.pulse_laws.specs.Runs.{afterTrains, answers}
 
@@ -21,3 +24,9 @@ unfolding afterTrains answers allPrint prints powerOn insertCall inserted loadSt
     trainStep stepReset stepArgument argumentRead argumentTaken trackSought nibbleOf needed nibbleTaken skipped runStarted
     stepReport itemGiven stepUnsupported latched stepOpenReport reportOf statusAsked errorRead stepCommand checked obeyed
 plates-print = refl
+
+pub list-plates-answer : ListPlatesAnswer
+unfolding trainsCall afterList levelsOf allAnswer answersAs afterTrains powerOn insertCall inserted loadStarted trainCall keepsRules cartridgeFits isIn
+    trainStep stepReset stepArgument argumentRead argumentTaken trackSought nibbleOf needed nibbleTaken skipped runStarted
+    stepReport itemGiven stepUnsupported latched stepOpenReport reportOf statusAsked errorRead stepCommand checked obeyed
+list-plates-answer = refl

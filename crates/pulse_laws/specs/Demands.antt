@@ -6,7 +6,8 @@ use mathlib.Core.List.{List, map}
 use mathlib.Core.Logic.{_≢_}
 use mathlib.Core.Path.{_≡_}
 use lib.ListN.{drop, length, replicate}
-use Rattle.numbers.specs.Choice.{_≡ᵇ_}
+use Rattle.numbers.specs.Choice.{_≡ᵇ_, _<ᵇ_}
+use Rattle.numbers.specs.Member.{isIn}
 use Rattle.numbers.specs.Outcomes.{Settles}
 use Rattle.pulse_codes.specs.Codes.{softReset}
 use Rattle.pulse_codes.specs.Errors.{noError}
@@ -14,10 +15,11 @@ use Rattle.pulse_parts.specs.declared.cartridge.Cartridge.{Cartridge}
 use Rattle.pulse_parts.specs.Faults.{errorHeld}
 use Rattle.pulse.specs.declared.calls.Step.{Step}
 use Rattle.pulse.specs.declared.drive.Drive.{Drive}
-use Rattle.pulse.specs.Calls.{alreadySo, emptyTrain, insertCall, notRefused, removeCall, tickCall, trainCall, waitCall}
+use Rattle.pulse.specs.Calls.{alreadySo, emptyTrain, insertCall, notRefused, outsideRanges, refused, removeCall, tickCall, trainCall, waitCall}
 use Rattle.pulse.specs.Calls.{InsertPromise, PowerOnPromise, RemovePromise, TickPromise, TrainPromise, WaitPromise}
 use Rattle.pulse.specs.Drives.{isReady, powerOn}
 use Rattle.pulse.specs.Rules.{keepsRules, maxSegments}
+use Rattle.pulse.specs.Trains.{TrainsPromise, sent, shortLevels, trainsCall}
 use Rattle.pulse_laws.specs.Plates.{allPrint, plates}
 use Rattle.pulse_laws.specs.Runs.{Exactly, KeepsIfRefused, NotStarted, Reachable, namesLevel, outsideItsRanges}
 use Rattle.pulse_laws.specs.Runs.{afterPaced, afterTicks, afterTrains, answers, distance, pacedAnswers, placeAfter}
@@ -31,6 +33,7 @@ pub record RulesKept : Type 0 where
   pub insert : (d : Drive) (cart : Cartridge) (place : ℕ) → keepsRules d ≡ true → keepsRules (insertCall d cart place .drive) ≡ true
   pub remove : (d : Drive) → keepsRules d ≡ true → keepsRules (removeCall d .drive) ≡ true
   pub wait : (d : Drive) (limit : ℕ) → keepsRules d ≡ true → keepsRules (waitCall d limit .drive) ≡ true
+  pub trains : (d : Drive) (counts levels : List ℕ) → keepsRules d ≡ true → keepsRules (trainsCall d counts levels .step .drive) ≡ true
 
 -- 01: "A refusal returns its number, .. (pulse calls: level 0, 0 ticks), and alters nothing"
 pub record RefusedKeeps : Type 0 where
@@ -40,15 +43,21 @@ pub record RefusedKeeps : Type 0 where
   pub remove : (d : Drive) → KeepsIfRefused d (removeCall d)
   pub wait : (d : Drive) (limit : ℕ) → waitCall d limit .number ≢ notRefused →
       (waitCall d limit .level ≡ false) × (waitCall d limit .ticks ≡ 0) × (waitCall d limit .drive ≡ d)
+  -- 02, A5: "then nothing is sent"
+  pub trains : (d : Drive) (counts levels : List ℕ) → trainsCall d counts levels .step .number ≢ notRefused →
+      trainsCall d counts levels ≡ sent (refused d (trainsCall d counts levels .step .number)) levels
 
 -- 01: "Given exactly when"; "Pulse order: 8, then 7 or 5, then 6."
 pub record NumberExactly : Type 0 where
-  pub train : (d : Drive) (n : ℕ) → Exactly (trainCall d n .number) (not (keepsRules d)) emptyTrain (n ≡ᵇ 0) false
-  pub tick : (d : Drive) → Exactly (tickCall d .number) (not (keepsRules d)) emptyTrain false false
+  pub train : (d : Drive) (n : ℕ) → Exactly (trainCall d n .number) (not (keepsRules d)) emptyTrain (n ≡ᵇ 0) outsideRanges false
+  pub tick : (d : Drive) → Exactly (tickCall d .number) (not (keepsRules d)) emptyTrain false outsideRanges false
   pub insert : (d : Drive) (cart : Cartridge) (place : ℕ) →
-      Exactly (insertCall d cart place .number) (not (keepsRules d)) alreadySo (d .marks .inside) (outsideItsRanges cart place)
-  pub remove : (d : Drive) → Exactly (removeCall d .number) (not (keepsRules d)) alreadySo (not (d .marks .inside)) false
-  pub wait : (d : Drive) (limit : ℕ) → Exactly (waitCall d limit .number) (not (keepsRules d)) emptyTrain false false
+      Exactly (insertCall d cart place .number) (not (keepsRules d)) alreadySo (d .marks .inside) outsideRanges (outsideItsRanges cart place)
+  pub remove : (d : Drive) → Exactly (removeCall d .number) (not (keepsRules d)) alreadySo (not (d .marks .inside)) outsideRanges false
+  pub wait : (d : Drive) (limit : ℕ) → Exactly (waitCall d limit .number) (not (keepsRules d)) emptyTrain false outsideRanges false
+  -- 02, A5: "8, then 5 if any count is 0, then 4 if the level buffer is shorter than the list"
+  pub trains : (d : Drive) (counts levels : List ℕ) →
+      Exactly (trainsCall d counts levels .step .number) (not (keepsRules d)) emptyTrain (isIn 0 counts) shortLevels (length levels <ᵇ length counts)
 
 -- 01 shuts out "a tick that does nothing, or a first tick that jumps to the target while later ones pretend (the place is fixed after each tick)"
 abbrev pub TickPlace : Type 0
@@ -122,6 +131,7 @@ pub record Settled : Type 0 where
   pub insert : (d : Drive) (cart : Cartridge) (place : ℕ) → Settles (InsertPromise d cart place)
   pub remove : (d : Drive) → Settles (RemovePromise d)
   pub wait : (d : Drive) (limit : ℕ) → Settles (WaitPromise d limit)
+  pub trains : (d : Drive) (counts levels : List ℕ) → Settles (TrainsPromise d counts levels)
 
 -- 01: "A small set is proved together as one table (*)"
 abbrev pub PlatesPrint : Type 0

@@ -1,3 +1,5 @@
 pub mod Runs
 pub mod Plates
 pub mod Demands
+pub mod ListPlates
+pub mod Lists

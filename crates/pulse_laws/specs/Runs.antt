@@ -16,7 +16,7 @@ use Rattle.pulse_parts.specs.Heads.{heldAt, isRun}
 use Rattle.pulse_parts.specs.Reports.{isOpen}
 use Rattle.pulse.specs.declared.calls.Step.{Step}
 use Rattle.pulse.specs.declared.drive.Drive.{Drive}
-use Rattle.pulse.specs.Calls.{rulesBroken, insertCall, notRefused, outsideRanges, removeCall, tickCall, trainCall}
+use Rattle.pulse.specs.Calls.{rulesBroken, insertCall, notRefused, removeCall, tickCall, trainCall}
 use Rattle.pulse.specs.Drives.{powerOn}
 use Rattle.pulse.specs.Rules.{inRanges}
 
@@ -122,9 +122,10 @@ KeepsIfRefused d s = s .number ≢ notRefused → (s .level ≡ false) × (s .dr
 abbrev pub outsideItsRanges : Cartridge → ℕ → Bool
 outsideItsRanges cart place = not (inRanges cart && (place ≤ᵇ cart .segments))
 
--- 01: "Pulse order: 8, then 7 or 5, then 6.": each number exactly under its condition with no earlier one holding, 0 exactly under none
-pub record Exactly (number : ℕ) (broken : Bool) (second : ℕ) (secondHolds : Bool) (outside : Bool) : Type 0 where
+-- 01: "Pulse order: 8, then 7 or 5, then 6."; 02, A5: "8, then 5 .., then 4": each number exactly under its condition with no earlier one
+-- holding, 0 exactly under none
+pub record Exactly (number : ℕ) (broken : Bool) (second : ℕ) (secondHolds : Bool) (third : ℕ) (thirdHolds : Bool) : Type 0 where
   pub eight : (number ≡ rulesBroken) ↔ (broken ≡ true)
   pub next : (number ≡ second) ↔ ((broken ≡ false) × (secondHolds ≡ true))
-  pub six : (number ≡ outsideRanges) ↔ ((broken ≡ false) × (secondHolds ≡ false) × (outside ≡ true))
-  pub zero : (number ≡ notRefused) ↔ ((broken ≡ false) × (secondHolds ≡ false) × (outside ≡ false))
+  pub last : (number ≡ third) ↔ ((broken ≡ false) × (secondHolds ≡ false) × (thirdHolds ≡ true))
+  pub zero : (number ≡ notRefused) ↔ ((broken ≡ false) × (secondHolds ≡ false) × (thirdHolds ≡ false))

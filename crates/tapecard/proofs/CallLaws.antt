@@ -22,6 +22,7 @@ use Rattle.pulse.specs.declared.calls.Waited.{Waited}
 use Rattle.pulse.specs.declared.drive.Drive.{Drive}
 use Rattle.pulse.specs.Drives.{powerOn}
 use Rattle.pulse.specs.Calls.{trainCall, tickCall, insertCall, removeCall, waitCall}
+use Rattle.pulse.specs.Trains.{sent, trainsCall}
 use Rattle.pulse_parts.specs.declared.cartridge.Cartridge.{Cartridge}
 use Rattle.packet_record.specs.PacketRecord.{decodeState, encodeState, encodeAnswer}
 use Rattle.tapecard.specs.PacketCalls.{PacketCard, OutcomeLeft, packetCard, packetFresh, packetChange, packetLeft, packetCall}
@@ -29,7 +30,8 @@ use Rattle.tapecard.specs.IndexCalls.{indexTold, indexCard, madeLeft, in
 use Rattle.tapecard.specs.FloppyCalls.{FloppyTold, floppyCard, floppyTold, floppyLeft, floppyPacketLeft}
 use Rattle.tapecard.specs.FloppyCalls.{floppyFreshCall, floppyChangeCall, floppyPacketCall}
 use Rattle.pulse_record.specs.PulseRecord.{decodeDrive, encodeDrive, encodeTold, describedCartridge, describedPlace}
-use Rattle.tapecard.specs.PulseCalls.{PulseCard, pulseCard, pulseLeft, pulsePowerOn, pulseTrain, pulseTick, pulseInsert, pulseRemove, pulseWait}
+use Rattle.tapecard.specs.PulseCalls.{PulseCard, listCard, pulseCard, pulseLeft}
+use Rattle.tapecard.specs.PulseCalls.{pulsePowerOn, pulseTrain, pulseTrains, pulseTick, pulseInsert, pulseRemove, pulseWait}
 
 -- ---- the packet drive
 
@@ -114,6 +116,10 @@ module _ (s : List ℕ) (d : Drive) (x : Step) (left : PulseCard) (q : d ≡ dec
   unfolding pulseTrain
   train-left n e = rw (l, e, q)
 
+  pub trains-left : (counts levels levels' : List ℕ) → sent x levels' ≡ trainsCall d counts levels → listCard left levels' ≡ pulseTrains s counts levels
+  unfolding pulseTrains
+  trains-left counts levels levels' e = rw (← q, ← e) (ap (λ (c : PulseCard). listCard c levels') l)
+
   pub tick-left : x ≡ tickCall d → left ≡ pulseTick s
   unfolding pulseTick
   tick-left e = rw (l, e, q)
@@ -149,6 +155,7 @@ pub ruleset ways = (
   pulse-kept,
   pulse-written,
   train-left,
+  trains-left,
   tick-left,
   insert-left,
   remove-left,

@@ -9,8 +9,8 @@ use Rattle.tapecard.specs.IndexCalls.{IndexCallPromise, IndexMakePromise
 use Rattle.tapecard.specs.FloppyCalls.{FloppyCallPromise, FloppyChangePromise, FloppyFreshPromise}
 use Rattle.tapecard.specs.FloppyCalls.{floppyChangeCall, floppyFreshCall, floppyPacketCall}
 use Rattle.tapecard.specs.PulseCalls.{PulseInsertPromise, PulsePowerOnPromise, PulseRemovePromise}
-use Rattle.tapecard.specs.PulseCalls.{PulseTickPromise, PulseTrainPromise, PulseWaitPromise}
-use Rattle.tapecard.specs.PulseCalls.{pulseInsert, pulsePowerOn, pulseRemove, pulseTick, pulseTrain, pulseWait}
+use Rattle.tapecard.specs.PulseCalls.{PulseTickPromise, PulseTrainPromise, PulseTrainsPromise, PulseWaitPromise}
+use Rattle.tapecard.specs.PulseCalls.{pulseInsert, pulsePowerOn, pulseRemove, pulseTick, pulseTrain, pulseTrains, pulseWait}
 
 pub fresh-settled : Settles PacketFreshPromise
 fresh-settled = settles packetFresh
@@ -41,6 +41,9 @@ power-on-settled vendor rom = settles (pulsePowerOn vendor rom)
 
 pub train-settled : (state : List ℕ) (pulses : ℕ) → Settles (PulseTrainPromise state pulses)
 train-settled state pulses = settles (pulseTrain state pulses)
+
+pub trains-settled : (state counts levels : List ℕ) → Settles (PulseTrainsPromise state counts levels)
+trains-settled state counts levels = settles (pulseTrains state counts levels)
 
 pub tick-settled : (state : List ℕ) → Settles (PulseTickPromise state)
 tick-settled state = settles (pulseTick state)

@@ -10,6 +10,7 @@ use Rattle.pulse.specs.declared.calls.Waited.{Waited}
 use Rattle.pulse.specs.declared.drive.Drive.{Drive}
 use Rattle.pulse.specs.Drives.{powerOn}
 use Rattle.pulse.specs.Calls.{trainCall, tickCall, insertCall, removeCall, waitCall}
+use Rattle.pulse.specs.Trains.{Sent, trainsCall}
 use Rattle.pulse_record.specs.PulseRecord.{decodeDrive, encodeDrive, encodeTold, describedCartridge, describedPlace}
 
 pub record PulseCard : Type 0 where
@@ -31,6 +32,17 @@ stepLeft state x = pulseLeft state (x .number) (x .level) 0 (x .drive)
 abbrev pub waitedLeft : List ℕ → Waited → PulseCard
 waitedLeft state x = pulseLeft state (x .number) (x .level) (x .ticks) (x .drive)
 
+-- 02, A5: the call with a list of trains leaves its level buffer too
+pub record ListCard : Type 0 where
+  pub card : PulseCard
+  pub levels : List ℕ
+
+abbrev pub listCard : PulseCard → List ℕ → ListCard
+listCard card levels = record { card = card; levels = levels }
+
+abbrev pub sentLeft : List ℕ → Sent → ListCard
+sentLeft state x = listCard (stepLeft state (x .step)) (x .levels)
+
 -- ---- all that each call leaves: record and answer
 
 -- the record of `tapecard_pulse_power_on`, whatever it was; it has no answer
@@ -39,6 +51,9 @@ pulsePowerOn vendor rom = encodeDrive (powerOn vendor rom)
 
 unfoldable pub pulseTrain : List ℕ → ℕ → PulseCard
 pulseTrain state pulses = stepLeft state (trainCall (decodeDrive state) pulses)
+
+unfoldable pub pulseTrains : List ℕ → List ℕ → List ℕ → ListCard
+pulseTrains state counts levels = sentLeft state (trainsCall (decodeDrive state) counts levels)
 
 unfoldable pub pulseTick : List ℕ → PulseCard
 pulseTick state = stepLeft state (tickCall (decodeDrive state))
@@ -59,6 +74,9 @@ PulsePowerOnPromise vendor rom left = left ≡ pulsePowerOn vendor rom
 
 abbrev pub PulseTrainPromise : List ℕ → ℕ → PulseCard → Type 0
 PulseTrainPromise state pulses left = left ≡ pulseTrain state pulses
+
+abbrev pub PulseTrainsPromise : List ℕ → List ℕ → List ℕ → ListCard → Type 0
+PulseTrainsPromise state counts levels left = left ≡ pulseTrains state counts levels
 
 abbrev pub PulseTickPromise : List ℕ → PulseCard → Type 0
 PulseTickPromise state left = left ≡ pulseTick state

@@ -1,7 +1,7 @@
 // The calls of the pulse drive.
 ghost use mathlib.Core.Path.{_≡_};
-ghost use Rattle.tapecard.specs.PulseCalls.{pulseCard, pulseLeft};
-ghost use Rattle.tapecard.specs.PulseCalls.{PulsePowerOnPromise, PulseTrainPromise, PulseTickPromise};
+ghost use Rattle.tapecard.specs.PulseCalls.{listCard, pulseCard, pulseLeft};
+ghost use Rattle.tapecard.specs.PulseCalls.{PulsePowerOnPromise, PulseTrainPromise, PulseTrainsPromise, PulseTickPromise};
 ghost use Rattle.tapecard.specs.PulseCalls.{PulseInsertPromise, PulseRemovePromise, PulseWaitPromise};
 use pulse::Drive;
 use pulse_record::decode_drive;
@@ -43,6 +43,21 @@ pub extern "C" fn tapecard_pulse_train(state: &mut [u8; 32], pulses: u16, answer
     let step = decode_drive(state).train(pulses);
     let after = step.drive;
     leave(state, answer, step.number, step.level, NO_TICKS, after);
+}
+
+#[no_mangle]
+pub extern "C" fn tapecard_pulse_trains(
+    state: &mut [u8; 32],
+    counts: &[u16],
+    levels: &mut [u8],
+    answer: &mut [u8; 8],
+)
+    ensures { λ _. ⌜ PulseTrainsPromise (now (state .entry)) (now (counts .entry)) (now (levels .entry))
+        (listCard (pulseCard (now (state .exit)) (now (answer .exit))) (now (levels .exit))) ⌝ }
+{
+    let sent = decode_drive(state).trains(counts, levels);
+    let after = sent.drive;
+    leave(state, answer, sent.number, sent.level, NO_TICKS, after);
 }
 
 #[no_mangle]
