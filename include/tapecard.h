@@ -5,14 +5,15 @@
  * Link target/staticlib/libtapecard.a, which `rt staticlib tapecard` makes (for x86-64). C99 and C++.
  *
  * A caller must give three things, which no proof can see:
- * 1. Pointers that are valid for as many bytes as their length says, and valid also where that is 0.
- * 2. Buffers that do not overlap: record, image, index, packet, data, answer and cartridge of one call are apart.
+ * 1. Pointers that are valid for as many bytes as their length says, and valid also where that is 0. The length of `counts` is in
+ *    counts, and its pointer is aligned for uint16_t.
+ * 2. Buffers that do not overlap: record, image, index, packet, data, answer, cartridge, counts and levels of one call are apart.
  * 3. Lengths that are true: who says 12 where 11 bytes came is protected by nothing; who says 11 is refused with 1.
  *
  * Beyond these:
- * - Every call takes every input: no bytes, lengths or numbers are forbidden. A short data buffer is refused with 4.
+ * - Every call takes every input: no bytes, lengths or numbers are forbidden. A short data or level buffer is refused with 4.
  * - A refused call (its answer's number is not 0) writes its answer and changes nothing else.
- * - Numbers of several bytes in records, images, packets and answers are big-endian.
+ * - Numbers of several bytes in records, images, packets and answers are big-endian. Counts are the processor's own uint16_t.
  * - No call keeps a pointer after it returns.
  */
 #ifndef TAPECARD_H
@@ -32,8 +33,8 @@ extern "C" {
 #define TAPECARD_REFUSED_IMAGE 2        /* image breaks a header rule; to the floppy device also: U is below C */
 #define TAPECARD_REFUSED_RECORD 3       /* packet record has P > U, a speed outside the five, or a sense key above 15; the floppy
                                            device's also: BSEG*SEGTRK*TRKS above C, or P above it */
-#define TAPECARD_REFUSED_BUFFER 4       /* data buffer is shorter than this transfer needs */
-#define TAPECARD_REFUSED_TRAIN 5        /* a train of 0 pulses */
+#define TAPECARD_REFUSED_BUFFER 4       /* data buffer is shorter than this transfer needs, or level buffer shorter than the list */
+#define TAPECARD_REFUSED_TRAIN 5        /* a train of 0 pulses, alone or anywhere in a list */
 #define TAPECARD_REFUSED_CARTRIDGE 6    /* cartridge description outside its ranges */
 #define TAPECARD_REFUSED_INSERTION 7    /* insertion with a cartridge in, or removal with none */
 #define TAPECARD_REFUSED_PULSE_RECORD 8 /* pulse record breaks the record rules */
@@ -251,6 +252,13 @@ void tapecard_pulse_power_on(uint8_t record[TAPECARD_PULSE_RECORD_LENGTH], uint1
 /* Sends one train of pulses. */
 void tapecard_pulse_train(uint8_t record[TAPECARD_PULSE_RECORD_LENGTH], uint16_t pulses,
                           uint8_t answer[TAPECARD_PULSE_ANSWER_LENGTH]);
+
+/*
+ * Sends a list of trains, as if each were sent by tapecard_pulse_train, and writes the level after each, 0 or 1; bytes of `levels`
+ * beyond the list stay. No time passes within a list, which may be empty. Refused with 8, then 5, then 4, nothing is sent.
+ */
+void tapecard_pulse_trains(uint8_t record[TAPECARD_PULSE_RECORD_LENGTH], const uint16_t *counts, size_t counts_length,
+                           uint8_t *levels, size_t levels_length, uint8_t answer[TAPECARD_PULSE_ANSWER_LENGTH]);
 
 /* Lets one tick pass: a moving tape goes one segment toward its target. */
 void tapecard_pulse_tick(uint8_t record[TAPECARD_PULSE_RECORD_LENGTH], uint8_t answer[TAPECARD_PULSE_ANSWER_LENGTH]);

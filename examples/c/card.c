@@ -1,7 +1,7 @@
 /*
  * The drive card from C: a host that wants the automatic speed sets it, two blocks and a filemark go onto a cartridge in memory
  * behind a locked door and come back, a packet that was cut is refused, an index of the filemarks tells where each file starts, the
- * floppy device rewrites a block in place and tells of a marked one, and a pulse drive is recovered by 46 trains.
+ * floppy device rewrites a block in place and tells of a marked one, and a pulse drive is recovered by 46 trains in one call.
  *
  *     cc -std=c99 -Wall -Wextra -Werror -Iinclude examples/c/card.c target/staticlib/libtapecard.a -o card
  */
@@ -17,7 +17,10 @@ enum {
     KINDS_AT = TAPECARD_IMAGE_HEADER_LENGTH,
     BLOCKS_AT = KINDS_AT + CAPACITY,
     IMAGE_LENGTH = BLOCKS_AT + CAPACITY * BLOCK_SIZE,
-    INDEX_LENGTH = CAPACITY * TAPECARD_INDEX_ENTRY_LENGTH
+    INDEX_LENGTH = CAPACITY * TAPECARD_INDEX_ENTRY_LENGTH,
+    STATUS_AT = 18, /* in the recovery: eighteen 2s before it and nine behind */
+    ERROR_AT = 28,  /* seventeen 2s behind */
+    RECOVERY_LENGTH = 46
 };
 
 /* Lent where a packet transfers nothing. */
@@ -286,25 +289,11 @@ static void use_floppy_device(void)
     rewrite_block_1(&drive);
 }
 
-static int train(uint8_t *record, uint16_t pulses)
+static void train(uint8_t *record, uint16_t pulses)
 {
     uint8_t answer[TAPECARD_PULSE_ANSWER_LENGTH];
 
     tapecard_pulse_train(record, pulses, answer);
-    return answer[TAPECARD_PULSE_ANSWER_LEVEL_AT];
-}
-
-/* Sends one train and then 2s, and prints the levels. Returns the trains sent. */
-static int print_levels(uint8_t *record, uint16_t first, int next_bits)
-{
-    int i;
-
-    printf("%2u:", (unsigned)first);
-    printf(" %d", train(record, first));
-    for (i = 0; i < next_bits; i++)
-        printf(" %d", train(record, 2));
-    printf("\n");
-    return 1 + next_bits;
 }
 
 static void print_pulse_drive(const char *when, const uint8_t *record)
@@ -334,10 +323,68 @@ static void put_cartridge_in(uint8_t *record)
     printf("loaded after %" PRIu32 " ticks\n", number_at(answer + TAPECARD_PULSE_ANSWER_TICKS_AT, 4));
 }
 
+/* A host that puts a 0 in its list sends nothing. */
+static void send_wrong_list(uint8_t *record)
+{
+    static const uint16_t counts[3] = {6, 0, 2};
+    static const uint8_t unwritten[3] = {9, 9, 9};
+    uint8_t before[TAPECARD_PULSE_RECORD_LENGTH];
+    uint8_t answer[TAPECARD_PULSE_ANSWER_LENGTH];
+    uint8_t levels[3];
+    int same;
+
+    memcpy(before, record, sizeof before);
+    memcpy(levels, unwritten, sizeof levels);
+    tapecard_pulse_trains(record, counts, 3, levels, sizeof levels, answer);
+    printf("a list with a 0: refused, number %u\n", (unsigned)answer[TAPECARD_ANSWER_NUMBER_AT]);
+    same = memcmp(before, record, sizeof before) == 0 && memcmp(unwritten, levels, sizeof levels) == 0;
+    printf("record and levels as before: %s\n", yes_or_no(same));
+}
+
+/* A train and the 2s behind it. */
+static void print_levels(const uint16_t *counts, const uint8_t *levels, int from, int to)
+{
+    int i;
+
+    printf("%2u:", (unsigned)counts[from]);
+    for (i = from; i < to; i++)
+        printf(" %u", (unsigned)levels[i]);
+    printf("\n");
+}
+
+/* Eight bits of a report, the lowest first. */
+static unsigned bits_at(const uint8_t *levels)
+{
+    unsigned value = 0;
+    int bit;
+
+    for (bit = 7; bit >= 0; bit--)
+        value = 2 * value + levels[bit];
+    return value;
+}
+
+/* Eighteen 2s close whatever report is open; status and error are then asked, all in one call. */
+static void send_recovery(uint8_t *record)
+{
+    uint8_t answer[TAPECARD_PULSE_ANSWER_LENGTH];
+    uint16_t counts[RECOVERY_LENGTH];
+    uint8_t levels[RECOVERY_LENGTH];
+    int i;
+
+    for (i = 0; i < RECOVERY_LENGTH; i++)
+        counts[i] = 2;
+    counts[STATUS_AT] = 6;
+    counts[ERROR_AT] = 7;
+    tapecard_pulse_trains(record, counts, RECOVERY_LENGTH, levels, sizeof levels, answer);
+    print_levels(counts, levels, 0, STATUS_AT);
+    print_levels(counts, levels, STATUS_AT, ERROR_AT);
+    print_levels(counts, levels, ERROR_AT, RECOVERY_LENGTH);
+    printf("the levels spell error %u, command %u\n", bits_at(levels + ERROR_AT + 1), bits_at(levels + ERROR_AT + 9));
+}
+
 static void recover_pulse_drive(void)
 {
     uint8_t record[TAPECARD_PULSE_RECORD_LENGTH];
-    int trains = 0;
 
     tapecard_pulse_power_on(record, 0x0157, 0x17);
     printf("pulse drive\n");
@@ -345,11 +392,10 @@ static void recover_pulse_drive(void)
     train(record, 33); /* a report that is left open */
     train(record, 2);
     print_pulse_drive("before", record);
-    trains += print_levels(record, 2, 17);
-    trains += print_levels(record, 6, 9);
-    trains += print_levels(record, 7, 17);
+    send_wrong_list(record);
+    send_recovery(record);
     print_pulse_drive("after", record);
-    printf("trains: %d\n", trains);
+    printf("trains: %d\n", RECOVERY_LENGTH);
 }
 
 int main(void)

@@ -2,39 +2,23 @@
 
 const GUARD_LENGTH: usize = 64;
 const GUARD: u8 = 0xC3;
-const GUARDS: [u8; GUARD_LENGTH] = [GUARD; GUARD_LENGTH];
 
-/// Bytes that are lent to a call, between guards that the call must leave alone. Each lending begins at another address modulo 16.
-pub struct Guarded {
-    whole: Vec<u8>,
+/// Bytes or counts that are lent to a call, between guards that the call must leave alone. Each lending begins at another place modulo
+/// 16.
+pub struct Guarded<T = u8> {
+    whole: Vec<T>,
+    guard: T,
     start: usize,
     length: usize,
 }
 
 impl Guarded {
     pub fn new(content: &[u8]) -> Guarded {
-        let mut guarded = Guarded {
-            whole: Vec::new(),
-            start: GUARD_LENGTH,
-            length: 0,
-        };
-        guarded.set(content);
-        guarded
-    }
-
-    /// Other bytes, of another length perhaps, with whole guards.
-    pub fn set(&mut self, content: &[u8]) {
-        self.length = content.len();
-        self.start = GUARD_LENGTH + (self.start + 5) % 16;
-        self.whole.clear();
-        self.whole.extend_from_slice(&GUARDS);
-        self.whole.resize(self.start, GUARD);
-        self.whole.extend_from_slice(content);
-        self.whole.extend_from_slice(&GUARDS);
+        Guarded::between(GUARD, content)
     }
 
     pub fn bytes(&self) -> &[u8] {
-        &self.whole[self.start..self.start + self.length]
+        self.content()
     }
 
     pub fn bytes_mut(&mut self) -> &mut [u8] {
@@ -50,11 +34,39 @@ impl Guarded {
             .try_into()
             .expect("a buffer of this length")
     }
+}
+
+impl<T: Copy + PartialEq> Guarded<T> {
+    pub fn between(guard: T, content: &[T]) -> Guarded<T> {
+        let mut guarded = Guarded {
+            whole: Vec::new(),
+            guard,
+            start: GUARD_LENGTH,
+            length: 0,
+        };
+        guarded.set(content);
+        guarded
+    }
+
+    /// Another content, of another length perhaps, with whole guards.
+    pub fn set(&mut self, content: &[T]) {
+        self.length = content.len();
+        self.start = GUARD_LENGTH + (self.start + 5) % 16;
+        self.whole.clear();
+        self.whole.resize(self.start, self.guard);
+        self.whole.extend_from_slice(content);
+        let end = self.whole.len() + GUARD_LENGTH;
+        self.whole.resize(end, self.guard);
+    }
+
+    pub fn content(&self) -> &[T] {
+        &self.whole[self.start..self.start + self.length]
+    }
 
     pub fn guards_hold(&self) -> bool {
-        let before = &self.whole[..self.start];
-        let after = &self.whole[self.start + self.length..];
-        before.iter().all(|&byte| byte == GUARD) && after == GUARDS
+        let (before, rest) = self.whole.split_at(self.start);
+        let after = &rest[self.length..];
+        before.iter().chain(after).all(|&guard| guard == self.guard)
     }
 }
 
@@ -77,5 +89,17 @@ mod tests {
         let mut guarded = Guarded::new(&[1, 2, 3]);
         guarded.bytes_mut().fill(0);
         assert!(guarded.guards_hold());
+    }
+
+    #[test]
+    fn counts_have_guards_too() {
+        let mut guarded = Guarded::between(0, &[0x0102_u16, 2, 65_535]);
+        assert_eq!(guarded.content(), [0x0102, 2, 65_535]);
+        assert!(guarded.guards_hold());
+        let behind = guarded.start + 3;
+        guarded.whole[behind] = 0x0100;
+        assert!(!guarded.guards_hold());
+        guarded.set(&[]);
+        assert!(guarded.content().is_empty() && guarded.guards_hold());
     }
 }

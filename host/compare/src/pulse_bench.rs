@@ -7,7 +7,8 @@ use model::pulse::Branch;
 use tapecard::bytes::long_at;
 use tapecard::raw;
 
-use crate::{Difference, Guarded, Origin};
+use crate::list_sides::{ListSeen, ListSides};
+use crate::{Difference, Guarded, Origin, TrainList};
 
 /// What an answer holds before a call, to see that the whole of it is written.
 const UNWRITTEN: [u8; 8] = [0x5A; 8];
@@ -16,10 +17,11 @@ const UNWRITTEN: [u8; 8] = [0x5A; 8];
 const HISTORY: usize = 60;
 
 /// One call of the pulse drive.
-#[derive(Clone, Copy, Debug, PartialEq, Eq)]
+#[derive(Clone, Debug, PartialEq, Eq)]
 pub enum PulseCall {
     PowerOn(u16, u8),
     Train(u16),
+    Trains(TrainList),
     Tick,
     Insert([u8; 8]),
     Remove,
@@ -41,6 +43,8 @@ pub struct PulseSeen {
     pub levels: BTreeSet<u8>,
     /// The most ticks that one wait answered.
     pub longest_wait: u32,
+    /// What lists of trains have shown.
+    pub lists: ListSeen,
 }
 
 /// A session of one drive.
@@ -49,6 +53,7 @@ pub struct PulseBench {
     engine_record: Guarded,
     engine_answer: Guarded,
     description: Guarded,
+    list: ListSides,
     model_record: [u8; 32],
     model_answer: [u8; 8],
     before: [u8; 32],
@@ -64,6 +69,7 @@ impl PulseBench {
             engine_record: Guarded::new(&[0; 32]),
             engine_answer: Guarded::new(&UNWRITTEN),
             description: Guarded::new(&[0; 8]),
+            list: ListSides::new(),
             model_record: [0; 32],
             model_answer: [0; 8],
             before: [0; 32],
@@ -91,64 +97,90 @@ impl PulseBench {
         self.engine_answer.array()
     }
 
+    /// The level buffer after the last list.
+    pub fn levels(&self) -> &[u8] {
+        self.list.levels()
+    }
+
+    /// The same as it was lent.
+    pub fn levels_before(&self) -> &[u8] {
+        self.list.levels_before()
+    }
+
     pub fn set_record(&mut self, record: &[u8; 32]) {
         self.engine_record.set(record);
         self.model_record = *record;
         self.history.clear();
     }
 
-    /// Makes one call on both sides and compares record, answer and guards.
+    /// Makes one call on both sides and compares record, answer, levels and guards; how it went. A list is also held to the engine's own
+    /// single trains.
     pub fn make(&mut self, call: PulseCall) -> Result<Option<Branch>, Box<Difference>> {
         self.origin.call += 1;
         self.seen.calls += 1;
         self.before = self.model_record;
         self.engine_answer.set(&UNWRITTEN);
-        self.ask_engine(call);
-        let branch = self.ask_model(call);
-        self.compare(call)?;
-        self.note(branch);
+        self.ask_engine(&call);
+        let ways = self.ask_model(&call);
+        self.compare(&call)?;
+        if let PulseCall::Trains(list) = &call {
+            self.keeps_the_rules(&call)?;
+            self.seen.lists.note(list, self.answer()[0], &ways);
+        }
+        let way = ways.first().copied();
+        self.note(way);
         if self.history.len() == HISTORY {
             self.history.pop_front();
         }
         self.history.push_back(call);
-        Ok(branch)
+        Ok(way)
     }
 
-    fn ask_engine(&mut self, call: PulseCall) {
+    fn ask_engine(&mut self, call: &PulseCall) {
         let record = self.engine_record.array_mut();
         let answer = self.engine_answer.array_mut();
         match call {
-            PulseCall::PowerOn(vendor, rom) => raw::pulse_power_on(record, vendor, rom),
-            PulseCall::Train(pulses) => raw::pulse_train(record, pulses, answer),
+            PulseCall::PowerOn(vendor, rom) => raw::pulse_power_on(record, *vendor, *rom),
+            PulseCall::Train(pulses) => raw::pulse_train(record, *pulses, answer),
+            PulseCall::Trains(list) => {
+                self.list.lend(list);
+                self.list.ask_engine(record, answer);
+            }
             PulseCall::Tick => raw::pulse_tick(record, answer),
             PulseCall::Insert(cartridge) => {
-                self.description.set(&cartridge);
+                self.description.set(cartridge);
                 raw::pulse_insert(record, self.description.array(), answer);
             }
             PulseCall::Remove => raw::pulse_remove(record, answer),
-            PulseCall::Wait(limit) => raw::pulse_wait(record, limit, answer),
+            PulseCall::Wait(limit) => raw::pulse_wait(record, *limit, answer),
         }
     }
 
-    fn ask_model(&mut self, call: PulseCall) -> Option<Branch> {
-        let record = &mut self.model_record;
-        let (answer, branch) = match call {
+    /// How the call went: of a list first the list itself and then its trains, of a power-on nothing.
+    fn ask_model(&mut self, call: &PulseCall) -> Vec<Branch> {
+        let (bug, record) = (self.bug, &mut self.model_record);
+        let (answer, way) = match call {
             PulseCall::PowerOn(vendor, rom) => {
-                model::pulse::power_on(record, vendor, rom);
+                model::pulse::power_on(record, *vendor, *rom);
                 self.model_answer = UNWRITTEN;
-                return None;
+                return Vec::new();
             }
-            PulseCall::Train(pulses) => model::pulse::train_with(self.bug, record, pulses),
-            PulseCall::Tick => model::pulse::tick_with(self.bug, record),
-            PulseCall::Insert(cartridge) => model::pulse::insert_with(self.bug, record, &cartridge),
-            PulseCall::Remove => model::pulse::remove_with(self.bug, record),
-            PulseCall::Wait(limit) => model::pulse::wait_with(self.bug, record, limit),
+            PulseCall::Trains(list) => {
+                let (answer, ways) = self.list.ask_model(bug, record, list);
+                self.model_answer = answer;
+                return ways;
+            }
+            PulseCall::Train(pulses) => model::pulse::train_with(bug, record, *pulses),
+            PulseCall::Tick => model::pulse::tick_with(bug, record),
+            PulseCall::Insert(cartridge) => model::pulse::insert_with(bug, record, cartridge),
+            PulseCall::Remove => model::pulse::remove_with(bug, record),
+            PulseCall::Wait(limit) => model::pulse::wait_with(bug, record, *limit),
         };
         self.model_answer = answer;
-        Some(branch)
+        vec![way]
     }
 
-    fn compare(&self, call: PulseCall) -> Result<(), Box<Difference>> {
+    fn compare(&self, call: &PulseCall) -> Result<(), Box<Difference>> {
         let guards_hold = self.engine_record.guards_hold()
             && self.engine_answer.guards_hold()
             && self.description.guards_hold();
@@ -156,8 +188,8 @@ impl PulseBench {
             "the answer"
         } else if self.engine_record.bytes() != self.model_record {
             "the record"
-        } else if matches!(call, PulseCall::Insert(c) if self.description.bytes() != c) {
-            "the cartridge description"
+        } else if let Some(part) = self.lent_part_differing(call) {
+            part
         } else if !guards_hold {
             "the bytes around a buffer"
         } else {
@@ -166,15 +198,55 @@ impl PulseBench {
         Err(self.difference(what, call))
     }
 
-    fn difference(&self, what: &str, call: PulseCall) -> Box<Difference> {
-        let session = format!("{call:?}, after {:?}", self.history);
-        let difference = Difference::new(self.origin, what, &session)
+    fn lent_part_differing(&self, call: &PulseCall) -> Option<&'static str> {
+        match call {
+            PulseCall::Insert(cartridge) if self.description.bytes() != cartridge => {
+                Some("the cartridge description")
+            }
+            PulseCall::Trains(list) => self.list.differing(list),
+            _ => None,
+        }
+    }
+
+    /// What holds of every list, whatever the model says.
+    fn keeps_the_rules(&self, call: &PulseCall) -> Result<(), Box<Difference>> {
+        match self
+            .list
+            .broken_rule(&self.before, self.record(), self.answer())
+        {
+            None => Ok(()),
+            Some(sentence) => {
+                let told = Difference::told(sentence, self.origin, &self.session(call));
+                Err(self.case(told, call))
+            }
+        }
+    }
+
+    fn difference(&self, what: &str, call: &PulseCall) -> Box<Difference> {
+        let told = Difference::new(self.origin, what, &self.session(call));
+        self.case(told, call)
+    }
+
+    fn session(&self, call: &PulseCall) -> String {
+        format!("{call:?}, after {:?}", self.history)
+    }
+
+    fn case(&self, difference: Difference, call: &PulseCall) -> Box<Difference> {
+        let case = difference
             .with("record before", &self.before)
             .with("engine's answer", self.engine_answer.bytes())
             .with("model's answer", &self.model_answer)
             .with("engine's record", self.engine_record.bytes())
             .with("model's record", &self.model_record);
-        Box::new(difference)
+        if !matches!(call, PulseCall::Trains(_)) {
+            return Box::new(case);
+        }
+        let (engine, model) = (self.list.levels(), self.list.model_levels());
+        let case = case
+            .with("levels before", self.list.levels_before())
+            .with("engine's levels", engine)
+            .with_both("levels", engine, model);
+        Box::new(case)
     }
 
     fn note(&mut self, branch: Option<Branch>) {

@@ -5,6 +5,7 @@ use std::collections::VecDeque;
 use tapecard::bytes::train::{COMMANDS, REPORTS, SKIPS};
 use tapecard::bytes::{put_word, word_at};
 
+use crate::list_sessions::{any_list, gather_trains};
 use crate::{Difference, PulseBench, PulseCall, Random};
 
 /// Makes calls, session after session, until `calls` are compared.
@@ -30,7 +31,7 @@ pub fn run_session(
 ) -> Result<(), Box<Difference>> {
     let mut planned = VecDeque::new();
     for _ in 0..length {
-        if edits && random.percent(2) {
+        if edits && random.percent(3) {
             with_damaged_record(bench, random)?;
             continue;
         }
@@ -39,6 +40,9 @@ pub fn run_session(
         }
         if planned.is_empty() {
             plan(&mut planned, bench.record(), random);
+            if random.percent(25) {
+                gather_trains(&mut planned, random);
+            }
         }
         let report_is_open = bench.record()[17] != 0;
         let breaks_in = if report_is_open { 2 } else { 8 };
@@ -73,7 +77,7 @@ fn start(bench: &mut PulseBench, random: &mut Random) -> Result<u64, Box<Differe
     Ok(random.between(5, 40))
 }
 
-/// One call with a record that is damaged; mostly put back afterwards.
+/// One call with a record that is damaged or has bytes that decoding leaves out; mostly put back afterwards.
 fn with_damaged_record(bench: &mut PulseBench, random: &mut Random) -> Result<(), Box<Difference>> {
     let good = *bench.record();
     let mut record = if random.percent(30) {
@@ -81,9 +85,17 @@ fn with_damaged_record(bench: &mut PulseBench, random: &mut Random) -> Result<()
     } else {
         good
     };
-    damage(&mut record, random);
+    if random.percent(25) {
+        put_surplus(&mut record, random);
+    } else {
+        damage(&mut record, random);
+    }
     bench.set_record(&record);
-    let call = any_call(&record, random);
+    let call = if random.percent(30) {
+        PulseCall::Trains(any_list(random))
+    } else {
+        any_call(&record, random)
+    };
     bench.make(call)?;
     let refused = bench.answer()[0] == 8;
     if refused || random.percent(30) {
@@ -262,7 +274,7 @@ fn plan(planned: &mut VecDeque<PulseCall>, record: &[u8; 32], random: &mut Rando
         8 => plan_argument(planned, 27, random.below(6)),
         9 | 10 => plan_motion(planned, random),
         11 => planned.push_back(PulseCall::Wait(limit(record, random))),
-        12 => planned.extend([PulseCall::Tick; 3]),
+        12 => planned.extend([const { PulseCall::Tick }; 3]),
         13 => plan_trains(planned, &[random.pick(&[3, 18])]),
         14 if random.percent(10) => planned.push_back(PulseCall::Remove),
         _ => planned.push_back(any_call(record, random)),
@@ -327,17 +339,18 @@ fn plan_argument(planned: &mut VecDeque<PulseCall>, code: u16, value: u64) {
 
 /// Any call at all, with the numbers that matter for this record.
 pub fn any_call(record: &[u8; 32], random: &mut Random) -> PulseCall {
-    match random.weighted(&[70, 12, 8, 5, 3, 1]) {
+    match random.weighted(&[70, 12, 8, 5, 3, 9, 1]) {
         0 => PulseCall::Train(any_train(random)),
         1 => PulseCall::Tick,
         2 => PulseCall::Wait(limit(record, random)),
         3 => PulseCall::Insert(any_cartridge(random)),
         4 => PulseCall::Remove,
+        5 => PulseCall::Trains(any_list(random)),
         _ => PulseCall::PowerOn(random.number() as u16, random.byte()),
     }
 }
 
-fn any_train(random: &mut Random) -> u16 {
+pub(crate) fn any_train(random: &mut Random) -> u16 {
     match random.below(16) {
         0..=3 => 2,
         4..=6 => random.pick(&REPORTS),

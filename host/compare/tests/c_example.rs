@@ -95,6 +95,8 @@ int main(void)
     uint8_t cartridge[TAPECARD_CARTRIDGE_LENGTH] = {0, 1, 1, 0, 0, 0, 0, 0};
     uint8_t packet[TAPECARD_PACKET_LENGTH] = {0}, image[1] = {0}, data[1] = {0};
     uint8_t floppy_record[TAPECARD_FLOPPY_RECORD_LENGTH] = {0}, index[TAPECARD_INDEX_ENTRY_LENGTH] = {0};
+    const uint16_t counts[2] = {2, 2};
+    uint8_t levels[2] = {9, 9};
     int refused = 0;
 
     tapecard_fresh(packet_record);
@@ -115,6 +117,8 @@ int main(void)
     tapecard_pulse_power_on(record, 1, 2);
     tapecard_pulse_train(record, 6, answer);
     refused += answer[TAPECARD_ANSWER_NUMBER_AT];
+    tapecard_pulse_trains(record, counts, 2, levels, sizeof levels, answer);
+    refused += answer[TAPECARD_ANSWER_NUMBER_AT] + (levels[0] != 1) + (levels[1] != 1);
     tapecard_pulse_tick(record, answer);
     refused += answer[TAPECARD_ANSWER_NUMBER_AT];
     tapecard_pulse_insert(record, cartridge, answer);

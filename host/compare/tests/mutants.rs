@@ -43,7 +43,7 @@ fn planted_floppy_mistakes_are_found() {
 
 #[test]
 fn planted_pulse_mistakes_are_found() {
-    for bug in Bug::PULSE {
+    for bug in Bug::PULSE.into_iter().chain(Bug::LIST) {
         let seed = seed_wanted();
         let mut bench = PulseBench::new(bug, seed);
         let found = pulse_sessions::run(&mut bench, seed, CALLS).is_err();

@@ -93,9 +93,9 @@ fn a_small_world_in_full() {
             record[20] = code;
             record[21] = held;
             put_word(&mut record, 22, 0x1111);
-            for &call in &calls {
+            for call in &calls {
                 bench.begin(&record);
-                let branch = agree(bench.make(call));
+                let branch = agree(bench.make(call.clone()));
                 if branch == Some(Branch::Refused(8)) {
                     break;
                 }

@@ -4,7 +4,7 @@ use std::collections::BTreeSet;
 use std::time::Instant;
 
 use compare::{DoorAsked, Entries, FloppyBench, IndexBench, Marked, PacketBench, PacketSeen};
-use compare::{PulseBench, PulseCall, PulseSeen, Random};
+use compare::{Length, ListSeen, PulseBench, PulseCall, PulseSeen, Random, Room, Zeros};
 use compare::{calls_wanted, say, seed_wanted};
 use compare::{floppy_sessions, index_sessions, packet_sessions, pulse_sessions};
 use model::Bug;
@@ -105,6 +105,14 @@ fn pulse_drive() {
         begun.elapsed().as_secs_f64(),
         bench.seen.branches.len(),
         bench.seen.longest_wait
+    ));
+    let lists = &bench.seen.lists;
+    say(&format!(
+        "lists of trains: {} lists with {} trains sent, the longest of {}, by {} branches",
+        lists.answered.values().sum::<u64>(),
+        lists.trains,
+        lists.longest,
+        lists.branches.len()
     ));
     if calls >= COVERAGE_FROM {
         pulses_went_everywhere(&bench.seen);
@@ -433,26 +441,103 @@ fn wanted_floppy_endings() -> Vec<(u8, u8, Ending)> {
 
 fn pulses_went_everywhere(seen: &PulseSeen) {
     let refusals: Vec<u8> = seen.refusals.keys().copied().collect();
-    assert_eq!(refusals, [5, 6, 7, 8]);
+    assert_eq!(refusals, [4, 5, 6, 7, 8]);
     assert_eq!(seen.errors, BTreeSet::from(ERRORS));
     assert_eq!(seen.levels, BTreeSet::from([0, 1]));
     assert_eq!(seen.longest_wait, 4095);
-    for branch in wanted_branches() {
+    let numbers = [4, 5, 6, 7, 8].map(Branch::Refused);
+    for branch in train_branches()
+        .iter()
+        .chain(&numbers)
+        .chain(&OTHER_BRANCHES)
+    {
         assert!(
-            seen.branches.contains_key(&branch),
+            seen.branches.contains_key(branch),
             "no call went through {branch:?}"
         );
     }
+    lists_went_everywhere(&seen.lists);
 }
 
-/// Every way that a call of the pulse drive can go.
-fn wanted_branches() -> Vec<Branch> {
+/// 02, A5: the trains of lists went every way that a train can go, and lists of every length, with and without a 0 and with every room
+/// for their levels, were answered as they had to be.
+fn lists_went_everywhere(seen: &ListSeen) {
+    for branch in train_branches() {
+        assert!(
+            seen.branches.contains_key(&branch),
+            "no train of a list went through {branch:?}"
+        );
+    }
+    assert!(seen.longest > 4096, "the longest list had {}", seen.longest);
+    for &(number, zeros, room, _) in seen.answered.keys() {
+        let due = number_due(zeros, room);
+        assert!(
+            [due, 8].contains(&number),
+            "0s {zeros:?}, room {room:?}: {number}"
+        );
+    }
+    for zeros in Zeros::ALL {
+        for room in Room::ALL {
+            let due = number_due(zeros, room);
+            was_answered(seen, due, |list| list == (zeros, room, Length::Short));
+        }
+        lists_were_mixed(seen, zeros);
+    }
+    for (zeros, room, length) in FEW_TRAINS {
+        let due = number_due(zeros, room);
+        was_answered(seen, due, |list| list == (zeros, room, length));
+    }
+}
+
+/// Long lists, and lists to a record that breaks the rules, had these 0s, both with room enough and with too little.
+fn lists_were_mixed(seen: &ListSeen, zeros: Zeros) {
+    for some_room in [Room::OneShort, Room::Exact] {
+        let enough = some_room >= Room::Exact;
+        let fits = |list: Stands| list.0 == zeros && (list.1 >= Room::Exact) == enough;
+        was_answered(seen, 8, fits);
+        let due = number_due(zeros, some_room);
+        was_answered(seen, due, |list| fits(list) && list.2 == Length::Long);
+    }
+}
+
+/// What stands out of a list.
+type Stands = (Zeros, Room, Length);
+
+/// Lists of no train and of one.
+const FEW_TRAINS: [Stands; 8] = [
+    (Zeros::Nowhere, Room::Exact, Length::Empty),
+    (Zeros::Nowhere, Room::Longer, Length::Empty),
+    (Zeros::Nowhere, Room::None, Length::One),
+    (Zeros::Nowhere, Room::Exact, Length::One),
+    (Zeros::Nowhere, Room::Longer, Length::One),
+    (Zeros::Several, Room::None, Length::One),
+    (Zeros::Several, Room::Exact, Length::One),
+    (Zeros::Several, Room::Longer, Length::One),
+];
+
+/// What a list is answered with where the record keeps its rules.
+fn number_due(zeros: Zeros, room: Room) -> u8 {
+    match (zeros, room) {
+        (Zeros::Nowhere, Room::Exact | Room::Longer) => 0,
+        (Zeros::Nowhere, _) => 4,
+        _ => 5,
+    }
+}
+
+/// Lists of this kind were answered with this number.
+fn was_answered(seen: &ListSeen, number: u8, is_meant: impl Fn(Stands) -> bool) {
+    let met = seen
+        .answered
+        .keys()
+        .filter(|answered| answered.0 == number)
+        .any(|&(_, zeros, room, length)| is_meant((zeros, room, length)));
+    assert!(met, "answered with {number} were only {:?}", seen.answered);
+}
+
+/// Every way that a train can go.
+fn train_branches() -> Vec<Branch> {
     use Branch::*;
     let mut wanted = vec![
-        Refused(5),
-        Refused(6),
-        Refused(7),
-        Refused(8),
         ResetWithCartridge,
         ResetWithout,
         NibbleHeld,
@@ -477,16 +562,6 @@ fn wanted_branches() -> Vec<Branch> {
         NewMark,
         NoCartridge,
         NotReferenced,
-        TickedStill,
-        TickedOn,
-        TickArrivedRun,
-        TickArrivedLoad,
-        Inserted,
-        RemovedStill,
-        RemovedMoving,
-        WaitedToReady,
-        WaitedToLimit,
-        WaitedReady,
     ];
     wanted.extend(train::SKIPS.map(|pulses| SkipStarted(pulses as u8)));
     wanted.extend(train::REPORTS.map(|pulses| Report(pulses as u8)));
@@ -494,3 +569,18 @@ fn wanted_branches() -> Vec<Branch> {
     wanted.extend([3, 18, 25, 26, 34, 35].map(ObeyedAfterStop));
     wanted
 }
+
+/// Every way that another call of the pulse drive can go, if it is not refused.
+const OTHER_BRANCHES: [Branch; 11] = [
+    Branch::TickedStill,
+    Branch::TickedOn,
+    Branch::TickArrivedRun,
+    Branch::TickArrivedLoad,
+    Branch::Inserted,
+    Branch::RemovedStill,
+    Branch::RemovedMoving,
+    Branch::WaitedToReady,
+    Branch::WaitedToLimit,
+    Branch::WaitedReady,
+    Branch::ListAccepted,
+];

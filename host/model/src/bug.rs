@@ -378,6 +378,70 @@ pub enum Bug {
     ErrorReportSendsNothing,
     /// Format and type are sent of a cartridge that is not referenced.
     TapeStatusUnreferenced,
+
+    // A list of trains of the pulse drive.
+    /// The trains before the first 0 are sent, and then the list is refused.
+    ListSentToFirstZero,
+    /// 5 is given for the first count alone.
+    OnlyFirstCountJudged,
+    /// 5 is given for the last count alone.
+    OnlyLastCountJudged,
+    /// 5 is not given for the first count.
+    FirstCountUnjudged,
+    /// 5 is not given for the last count.
+    LastCountUnjudged,
+    /// The counts of a list are cut to a byte.
+    ListCutToByte,
+    /// A level buffer of the list's length is refused.
+    RoomAtLengthRefused,
+    /// A level buffer one shorter than the list is taken, and the last level dropped.
+    RoomOneShortTaken,
+    /// A level buffer is refused that is shorter than the bytes of the list.
+    RoomJudgedInBytes,
+    /// The trains that a short level buffer has room for are sent, and then the list is refused.
+    ShortRoomFilled,
+    /// 4 is given before 5.
+    RoomBeforeZero,
+    /// 5 is given before 8.
+    ZeroBeforeRecord,
+    /// 4 is given before 8.
+    RoomBeforeRecord,
+    /// A refused list clears the level buffer.
+    RefusalClearsLevels,
+    /// A list that is refused with 5 or 4 writes the record in its canonical form.
+    RefusedListWritesRecord,
+    /// A refused list answers the drive's level.
+    RefusalTellsLevel,
+    /// An empty list is refused with 5.
+    EmptyListRefused,
+    /// An empty list answers level 0.
+    EmptyListTellsLow,
+    /// An empty list does not write the record in its canonical form.
+    EmptyListKeepsRecord,
+    /// Each level is written one place on.
+    LevelOnePlaceOn,
+    /// The level before each train is written.
+    LevelBeforeTrain,
+    /// Level 1 is written as FFh.
+    LevelIsFf,
+    /// A level is written into bit 0 of its byte.
+    LevelKeepsHighBits,
+    /// Bytes of the level buffer beyond the list are cleared.
+    LevelsBeyondCleared,
+    /// The answer to a list tells the level after its first train.
+    AnswerTellsFirstLevel,
+    /// The answer to a list tells its length as ticks.
+    AnswerTellsLength,
+    /// A tick passes between two trains of a list.
+    TickBetweenTrains,
+    /// A list ends at the train that latches an error.
+    ListEndsAtError,
+    /// Of a list the first 256 trains are sent.
+    Only256Sent,
+    /// A list begins with no open report and no waiting arguments.
+    ListBeginsAnew,
+    /// A list leaves no open report and no waiting arguments.
+    ListLeavesNothingOpen,
 }
 
 impl Bug {
@@ -579,5 +643,40 @@ impl Bug {
         Bug::RemovalKeepsError,
         Bug::ErrorReportSendsNothing,
         Bug::TapeStatusUnreferenced,
+    ];
+
+    /// Mistakes in a list of trains.
+    pub const LIST: [Bug; 31] = [
+        Bug::ListSentToFirstZero,
+        Bug::OnlyFirstCountJudged,
+        Bug::OnlyLastCountJudged,
+        Bug::FirstCountUnjudged,
+        Bug::LastCountUnjudged,
+        Bug::ListCutToByte,
+        Bug::RoomAtLengthRefused,
+        Bug::RoomOneShortTaken,
+        Bug::RoomJudgedInBytes,
+        Bug::ShortRoomFilled,
+        Bug::RoomBeforeZero,
+        Bug::ZeroBeforeRecord,
+        Bug::RoomBeforeRecord,
+        Bug::RefusalClearsLevels,
+        Bug::RefusedListWritesRecord,
+        Bug::RefusalTellsLevel,
+        Bug::EmptyListRefused,
+        Bug::EmptyListTellsLow,
+        Bug::EmptyListKeepsRecord,
+        Bug::LevelOnePlaceOn,
+        Bug::LevelBeforeTrain,
+        Bug::LevelIsFf,
+        Bug::LevelKeepsHighBits,
+        Bug::LevelsBeyondCleared,
+        Bug::AnswerTellsFirstLevel,
+        Bug::AnswerTellsLength,
+        Bug::TickBetweenTrains,
+        Bug::ListEndsAtError,
+        Bug::Only256Sent,
+        Bug::ListBeginsAnew,
+        Bug::ListLeavesNothingOpen,
     ];
 }

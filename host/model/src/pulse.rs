@@ -1,7 +1,10 @@
 //! The pulse drive, which keeps its own record.
 
+mod list;
+
 use crate::Bug;
 use crate::bytes::{put_long, put_word, word_at};
+pub use list::{trains, trains_with};
 
 const RESET: u16 = 1;
 const NEXT_BIT: u16 = 2;
@@ -141,6 +144,8 @@ pub enum Branch {
     WaitedToReady,
     WaitedToLimit,
     WaitedReady,
+    /// A list, before its trains.
+    ListAccepted,
 }
 
 /// Power-on.

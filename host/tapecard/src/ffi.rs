@@ -61,6 +61,14 @@ mod archive {
         );
         pub fn tapecard_pulse_power_on(record: *mut u8, vendor: u16, rom: u8);
         pub fn tapecard_pulse_train(record: *mut u8, pulses: u16, answer: *mut u8);
+        pub fn tapecard_pulse_trains(
+            record: *mut u8,
+            counts: *const u16,
+            counts_length: usize,
+            levels: *mut u8,
+            levels_length: usize,
+            answer: *mut u8,
+        );
         pub fn tapecard_pulse_tick(record: *mut u8, answer: *mut u8);
         pub fn tapecard_pulse_insert(record: *mut u8, cartridge: *const u8, answer: *mut u8);
         pub fn tapecard_pulse_remove(record: *mut u8, answer: *mut u8);
@@ -196,6 +204,26 @@ pub fn pulse_power_on(record: &mut [u8; 32], vendor: u16, rom: u8) {
 pub fn pulse_train(record: &mut [u8; 32], pulses: u16, answer: &mut [u8; 8]) {
     // SAFETY: the record has 32 bytes and the answer 8, borrowed apart for reading and writing.
     unsafe { archive::tapecard_pulse_train(record.as_mut_ptr(), pulses, answer.as_mut_ptr()) }
+}
+
+pub fn pulse_trains(
+    record: &mut [u8; 32],
+    counts: &[u16],
+    levels: &mut [u8],
+    answer: &mut [u8; 8],
+) {
+    // SAFETY: counts and levels go over with their own lengths, the counts aligned as C wants it and only read, the record has 32
+    // bytes, the answer 8, and the borrows keep the four apart.
+    unsafe {
+        archive::tapecard_pulse_trains(
+            record.as_mut_ptr(),
+            counts.as_ptr(),
+            counts.len(),
+            levels.as_mut_ptr(),
+            levels.len(),
+            answer.as_mut_ptr(),
+        )
+    }
 }
 
 pub fn pulse_tick(record: &mut [u8; 32], answer: &mut [u8; 8]) {

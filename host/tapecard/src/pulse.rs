@@ -63,6 +63,23 @@ impl Record {
         level_of(&answer)
     }
 
+    /// Sends a list of trains, none of them apart from the others by a tick, as if each were sent by [`Record::train`]. The level
+    /// after each is put in `levels`, 0 or 1, whose bytes beyond the list stay; what is handed back is the level after the last, or as
+    /// it stood where the list is empty. Refused, nothing is sent: 8, then 5 where any count is 0, then 4 where `levels` is shorter
+    /// than the list.
+    pub fn trains(&mut self, counts: &[u16], levels: &mut [u8]) -> Result<Level, Refusal> {
+        let mut answer = [0; 8];
+        ffi::pulse_trains(&mut self.0, counts, levels, &mut answer);
+        level_of(&answer)
+    }
+
+    /// Sends a list of trains, as [`Record::trains`] does, with a level buffer of its own: the level after each train.
+    pub fn exchange(&mut self, counts: &[u16]) -> Result<Vec<Level>, Refusal> {
+        let mut levels = vec![0; counts.len()];
+        self.trains(counts, &mut levels)?;
+        Ok(levels.into_iter().map(|level| Level(level != 0)).collect())
+    }
+
     /// Lets one tick of time pass.
     pub fn tick(&mut self) -> Result<Level, Refusal> {
         let mut answer = [0; 8];

@@ -2,7 +2,7 @@
 
 pub use crate::ffi::{
     change, floppy_change, floppy_fresh, floppy_packet, fresh, index_make, index_packet, packet,
-    pulse_insert, pulse_power_on, pulse_remove, pulse_tick, pulse_train, pulse_wait,
+    pulse_insert, pulse_power_on, pulse_remove, pulse_tick, pulse_train, pulse_trains, pulse_wait,
 };
 
 /// Bytes of the stream device's packet record.

@@ -22,6 +22,8 @@ impl Refusal {
                 "packet record has P > U, a speed outside the five, a sense key above 15, \
                  BSEG*SEGTRK*TRKS > C, or P above that product"
             }
+            // 02, A5: "4 if the level buffer is shorter than the list"
+            (4, Device::Pulse) => "a lent level buffer is shorter than the list of trains",
             (number, _) => sentence_of(number),
         }
     }
@@ -106,6 +108,20 @@ mod tests {
             shown(10, Device::Stream),
             "refusal 10: filemark index differs from a fresh one: make it afresh from the image"
         );
+    }
+
+    /// A packet's transfer needs a data buffer, a list of trains a level buffer; a count of 0 is a train alone as well as in a list.
+    #[test]
+    fn the_pulse_drive_gives_4_for_its_level_buffer() {
+        assert_eq!(
+            shown(4, Device::Pulse),
+            "refusal 4: a lent level buffer is shorter than the list of trains"
+        );
+        assert_eq!(
+            shown(4, Device::Stream),
+            "refusal 4: a lent data buffer is shorter than this transfer needs"
+        );
+        assert_eq!(shown(5, Device::Pulse), "refusal 5: a train of 0 pulses");
     }
 
     #[test]
