@@ -1,6 +1,7 @@
 #!/usr/bin/env bash
 # A walk through the drive card in under a minute: glyphs on a tape and back, a list for the label printer, a READ that stops, one
-# near the end of tape, a speed set, a locked door, a cut packet, a glyph redrawn in place, a marked header block, a lost drive.
+# near the end of tape, a speed set, a locked door, a cut packet, a glyph redrawn in place, a marked header block, a lost drive, an
+# exchange that is refused whole.
 # Run by `make demo`, after the archive and the command are built. TAPECARD may name another build of the command.
 set -euo pipefail
 cd "$(dirname "$0")/.."
@@ -154,7 +155,16 @@ tick 10
 2 x5         # here the workstation stops listening
 LINES
 
-heading "Forty-six trains bring it back"
+heading "Forty-six trains, sent by one call, bring it back"
 run recover --record pulse.record
+
+heading "An exchange with a train of 0 pulses in it is refused whole: none of its trains is sent, and nothing changes"
+sha256sum pulse.record >before.sums
+printf "\n\$ echo '26 7 0' | tapecard pulse --record pulse.record\n"
+if echo '26 7 0' | tapecard pulse --record pulse.record; then
+    echo "demo: the exchange was not refused" >&2
+    exit 1
+fi
+sha256sum -c before.sums
 
 heading "Done"

@@ -11,6 +11,8 @@ pub enum Failure {
     Usage(String),
     /// The work could not be done: exit status 1.
     Work(String),
+    /// The card did other than what is proved of it: exit status 1, and a session ends there even at a terminal.
+    Fault(String),
     /// The drive answered CHECK CONDITION, as its answer says: exit status 3.
     Answered,
     /// Standard output took no more of what was asked for: exit status 1.
@@ -33,7 +35,7 @@ impl Failure {
         let took_no_more = |e: &io::Error| format!("standard output took no more: {e}");
         let (sentence, status) = match self {
             Failure::Usage(sentence) => (sentence.clone(), 2),
-            Failure::Work(sentence) => (sentence.clone(), 1),
+            Failure::Work(sentence) | Failure::Fault(sentence) => (sentence.clone(), 1),
             Failure::Answered => return ExitCode::from(3),
             Failure::Output(e) => (took_no_more(e), 1),
             Failure::Untold { error, done } => (format!("{}; {done}", took_no_more(error)), 0),

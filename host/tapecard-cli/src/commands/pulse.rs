@@ -2,6 +2,7 @@
 
 mod line;
 mod session;
+mod show;
 
 use std::io::Write;
 
@@ -18,9 +19,10 @@ use session::PulseSession;
 const HELP: &str = "\
 usage: tapecard pulse [--record FILE] [--vendor N] [--rom N]
 
-A session with the pulse drive: each line of standard input is a call. What a
-line changed is on the disk before its answer is shown, so an interrupt (Ctrl-C)
-loses nothing that was answered; a bad line ends a script there.
+A session with the pulse drive: each line of standard input is a call. The
+trains of a line are one exchange: all of them are sent, or none where one is 0.
+What a line changed is on the disk before its answer is shown, so an interrupt
+(Ctrl-C) loses nothing that was answered; a bad line ends a script there.
   --record FILE  keep the drive's record of 32 bytes between runs; a file that
                  is not there is begun with a drive just switched on
   --vendor N     vendor ID of a drive switched on, 0 to 65535
@@ -31,7 +33,8 @@ loses nothing that was answered; a bad line ends a script there.
 const LINES: &str = "\
 lines:
   6              a train of 6 pulses; also: train 6
-  2 x18          eighteen trains of 2; several may stand on a line: 35 14 4 3
+  2 x18          eighteen trains of 2; several may stand on a line: 35 14 4 3;
+                 with a 0 among them nothing of the line is sent
   ask 6          a report with all its bits: 6 status, 7 error,
                  8 configuration, 9 ROM, 32 vendor, 33 tape
   tick 5         five ticks of time pass

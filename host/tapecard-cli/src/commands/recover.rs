@@ -1,7 +1,7 @@
 //! `tapecard recover`: a workstation that lost track of its pulse drive gets it back.
 //!
-//! After as many ticks as a track has segments every motion has ended. Then come 46 trains: eighteen 2s close whatever report is
-//! open, 6 and nine 2s ask for the status, 7 and seventeen 2s ask for the error, which clears it.
+//! After as many ticks as a track has segments every motion has ended. Then come 46 trains, sent by one call: eighteen 2s close
+//! whatever report is open, 6 and nine 2s ask for the status, 7 and seventeen 2s ask for the error, which clears it.
 
 use std::io::Write;
 
@@ -14,6 +14,7 @@ use crate::command_line::args::{Args, Options};
 use crate::command_line::failure::Failure;
 use crate::files::held_file::unwritten;
 use crate::files::record_file::RecordFile;
+use crate::pulses::exchange::{Sent, Step};
 use crate::pulses::reports::{self, Heard, Listener};
 use crate::pulses::state;
 use crate::terminal::output;
@@ -26,8 +27,8 @@ usage: tapecard recover [--record FILE]
 
 Brings a lost pulse drive back: after as many ticks as its track has segments
 come the 46 recovery trains (eighteen 2s; 6 and nine 2s; 7 and seventeen 2s),
-each shown with its bit. Tells which error was held and by which command, and
-how the drive stands.
+sent by one call, each shown with its bit. Tells which error was held and by
+which command, and how the drive stands.
   --record FILE  the drive's record, as tapecard pulse keeps it; it must be
                  there. Without it a drive just switched on is shown
 ";
@@ -110,29 +111,26 @@ impl Station {
         Ok(segments)
     }
 
-    /// The 46 trains.
+    /// Sends the 46 trains by one call.
     fn send_all(&mut self) -> Result<Vec<Row>, Failure> {
-        let mut trains = vec![train::NEXT_BIT; CLOSING_TWOS];
-        for report in [train::STATUS, train::ERROR] {
-            let bits = reports::length(report).unwrap_or(0);
-            trains.push(report);
-            trains.extend(vec![train::NEXT_BIT; bits + 1]);
+        let trains = recovery_trains();
+        let sent = Sent::by_one_call(&self.record, &trains).map_err(bad_record)?;
+        let exchange = sent.walked()?;
+        self.record = exchange.left;
+        Ok(exchange.steps.iter().map(|step| self.row(step)).collect())
+    }
+
+    fn row(&mut self, step: &Step) -> Row {
+        let heard = self.listener.hear(step);
+        Row {
+            pulses: step.pulses,
+            level: step.level.is_high().into(),
+            meaning: self.meaning(step, &heard),
         }
-        trains.into_iter().map(|pulses| self.send(pulses)).collect()
     }
 
-    fn send(&mut self, pulses: u16) -> Result<Row, Failure> {
-        let before = self.record;
-        let level = self.record.train(pulses).map_err(bad_record)?;
-        let heard = self.listener.hear(pulses, &before, &self.record);
-        Ok(Row {
-            pulses,
-            level: level.is_high().into(),
-            meaning: self.meaning(pulses, &before, &heard),
-        })
-    }
-
-    fn meaning(&self, pulses: u16, before: &Record, heard: &Heard) -> String {
+    fn meaning(&self, step: &Step, heard: &Heard) -> String {
+        let (pulses, before) = (step.pulses, &step.before);
         match heard {
             Heard::Nothing if pulses == train::NEXT_BIT && before.waiting_code() == 0 => {
                 "no report is open: nothing happens".into()
@@ -141,7 +139,7 @@ impl Station {
             Heard::Opened => format!("{}: acknowledged", state::meaning(pulses, before)),
             Heard::Bit(index) => {
                 let code = self.listener.code().unwrap_or(0);
-                reports::bit_in_words(code, *index, self.record.level().is_high())
+                reports::bit_in_words(code, *index, step.level.is_high())
             }
             Heard::UnknownBit => "a bit of the report that was left open".into(),
             Heard::Repeat => "the last level once more, owed by the open report".into(),
@@ -171,6 +169,14 @@ impl Station {
         )?;
         Ok(())
     }
+}
+
+fn recovery_trains() -> Vec<u16> {
+    let mut trains = vec![train::NEXT_BIT; CLOSING_TWOS];
+    for report in [train::STATUS, train::ERROR] {
+        trains.extend(reports::trains(report).unwrap_or_default());
+    }
+    trains
 }
 
 /// A line for each train; trains that do the same one after the other share theirs.

@@ -1,8 +1,8 @@
 //! The reports of the pulse drive: bits collected train by train, then explained by table 2c of QIC-117.
 
 use tapecard::bytes::train;
-use tapecard::pulse::Record;
 
+use super::exchange::Step;
 use crate::words;
 
 /// Bits of a report without its final 1, where this train asks for one.
@@ -12,6 +12,13 @@ pub fn length(pulses: u16) -> Option<usize> {
         train::ERROR | train::VENDOR => Some(16),
         _ => None,
     }
+}
+
+/// The trains that bring a whole report: its own, a 2 for each bit and one for the final 1.
+pub fn trains(pulses: u16) -> Option<Vec<u16>> {
+    let mut trains = vec![pulses];
+    trains.resize(length(pulses)? + 2, train::NEXT_BIT);
+    Some(trains)
 }
 
 /// What a train meant for the report.
@@ -43,18 +50,18 @@ pub struct Listener {
 }
 
 impl Listener {
-    /// Takes in one train by the records before and after it.
-    pub fn hear(&mut self, pulses: u16, before: &Record, after: &Record) -> Heard {
-        let (was_left, left) = (before.report_left(), after.report_left());
+    /// Takes in one train by its level and by the records before and after it.
+    pub fn hear(&mut self, step: &Step) -> Heard {
+        let (was_left, left) = (step.before.report_left(), step.after.report_left());
         if was_left == 0 {
             if left == 0 {
                 return Heard::Nothing;
             }
-            self.code = Some(pulses);
+            self.code = Some(step.pulses);
             self.bits.clear();
             return Heard::Opened;
         }
-        if pulses != train::NEXT_BIT {
+        if step.pulses != train::NEXT_BIT {
             return if left == 0 {
                 Heard::BrokenOff
             } else {
@@ -66,7 +73,7 @@ impl Listener {
         } else if left == 0 {
             Heard::Closed
         } else {
-            self.hear_bit(after.level().is_high())
+            self.hear_bit(step.level.is_high())
         }
     }
 
@@ -176,6 +183,20 @@ mod tests {
 
     fn bits(text: &str) -> Vec<bool> {
         text.chars().map(|c| c == '1').collect()
+    }
+
+    #[test]
+    fn the_trains_of_a_report_bring_its_bits_and_the_final_1() {
+        assert_eq!(trains(6), Some(vec![6, 2, 2, 2, 2, 2, 2, 2, 2, 2]));
+        for report in [7, 8, 9, 32, 33] {
+            let mut record = tapecard::pulse::Record::power_on(0, 0);
+            for pulses in trains(report).unwrap() {
+                assert_ne!(record.report_left() == 0, pulses == train::NEXT_BIT);
+                record.train(pulses).unwrap();
+            }
+            assert_eq!(record.report_left(), 0, "{report}");
+        }
+        assert_eq!(trains(10), None);
     }
 
     #[test]

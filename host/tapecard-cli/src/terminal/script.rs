@@ -86,7 +86,7 @@ fn prompt<S: Session>(typed: bool, out: &mut dyn Write) -> Result<(), Failure> {
 
 fn bad_line(number: u64, failure: Failure) -> Failure {
     match failure {
-        Failure::Work(sentence) => Failure::work(format!(
+        Failure::Work(sentence) | Failure::Fault(sentence) => Failure::work(format!(
             "line {number}: {sentence}; the script ends here, and what the lines before it did is kept"
         )),
         other => other,

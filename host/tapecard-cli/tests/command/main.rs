@@ -2,6 +2,7 @@
 
 mod command_line;
 mod common;
+mod exchanges;
 mod files;
 mod floppy;
 mod flushing;

@@ -94,7 +94,8 @@ fn refused_calls_are_told_and_the_session_goes_on() {
         "tapecard: 4 calls refused; a refused call changes nothing\n"
     );
     said.has_lines(&[
-        "0        refused, 5: a train of 0 pulses; nothing changed",
+        "0        refused, 5: a train of 0 pulses, train 1 of the line; nothing of the line was sent. Give it 1 to 65535 pulses, \
+         or leave it out",
         "remove   refused, 7: insertion with a cartridge in, or removal with none; nothing changed",
         "insert   refused, 6: cartridge description outside its ranges; nothing changed",
         "insert   refused, 7: insertion with a cartridge in, or removal with none; nothing changed",
@@ -240,7 +241,11 @@ fn a_record_that_breaks_the_rules() {
     );
     assert_eq!(place.read("r"), [0xFF; 32]);
     let said = place.run_with(&["pulse", "--record", "r"], b"6\nwait 9\nask 6\n");
-    said.has_lines(&["6        refused, 8: pulse record breaks the record rules; nothing changed"]);
+    said.has_lines(&[
+        "6        refused, 8: pulse record breaks the record rules; nothing of the line was sent. Name another record with \
+         --record, or remove the file to start from power-on",
+        "wait     refused, 8: pulse record breaks the record rules; nothing changed",
+    ]);
 }
 
 /// Random lines, records and trains: an answer, a refusal or a sentence, never a crash.

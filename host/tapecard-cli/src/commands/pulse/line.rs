@@ -1,5 +1,7 @@
 //! One line of a pulse session, read.
 
+use std::iter;
+
 use tapecard::pulse::Cartridge;
 
 use crate::command_line::failure::Failure;
@@ -7,6 +9,9 @@ use crate::words;
 
 /// A cartridge has at most 4,095 segments, so nobody needs more of anything at once.
 const MOST_TIMES: u32 = 65_535;
+
+/// A line is one list in memory: some bytes must not ask for all there is.
+const MOST_TRAINS: u64 = 1_048_576;
 
 #[derive(Debug, PartialEq, Eq)]
 pub enum Line {
@@ -27,6 +32,12 @@ pub enum Line {
 pub struct Trains {
     pub pulses: u16,
     pub times: u32,
+}
+
+/// The pulses of each train of a line, in the order they are sent in.
+pub fn counts(list: &[Trains]) -> Vec<u16> {
+    let each = |trains: &Trains| iter::repeat_n(trains.pulses, trains.times as usize);
+    list.iter().flat_map(each).collect()
 }
 
 pub fn read(line: &str) -> Result<Line, Failure> {
@@ -72,6 +83,12 @@ fn read_trains(all: &[&str]) -> Result<Line, Failure> {
     }
     if trains.is_empty() {
         return Err(wrong("say which train to send, as in train 6"));
+    }
+    let sent: u64 = trains.iter().map(|t| u64::from(t.times)).sum();
+    if sent > MOST_TRAINS {
+        return Err(Failure::work(format!(
+            "the line has {sent} trains and an exchange at most {MOST_TRAINS}, so nothing of it is sent: put them on several lines"
+        )));
     }
     Ok(Line::Trains(trains))
 }
@@ -174,6 +191,21 @@ mod tests {
             read("35 14 4 3").unwrap(),
             trains(&[(35, 1), (14, 1), (4, 1), (3, 1)])
         );
+    }
+
+    #[test]
+    fn the_trains_of_a_line_in_their_order() {
+        let Line::Trains(list) = read("35 14 x2 2 x3 3").unwrap() else {
+            panic!("trains");
+        };
+        assert_eq!(counts(&list), [35, 14, 14, 2, 2, 2, 3]);
+    }
+
+    #[test]
+    fn the_most_trains_of_a_line() {
+        let most = format!("{}2 x16", "2 x65535 ".repeat(16));
+        assert!(matches!(read(&most), Ok(Line::Trains(list)) if counts(&list).len() == 1_048_576));
+        assert!(read(&format!("{most} 2")).is_err());
     }
 
     #[test]

@@ -3,20 +3,18 @@
 use std::io::Write;
 
 use tapecard::Refusal;
-use tapecard::bytes::train;
-use tapecard::pulse::{Level, Record};
+use tapecard::pulse::Record;
 
 use super::line::{self, Line, Trains};
+use super::show;
 use crate::command_line::failure::Failure;
 use crate::files::held_file::unwritten;
 use crate::files::record_file::RecordFile;
+use crate::pulses::exchange::{Sent, Step};
 use crate::pulses::reports::{self, Heard, Listener};
 use crate::pulses::state;
 use crate::terminal::script::{Flow, Session};
 use crate::words;
-
-/// Levels shown of a train that is sent very often.
-const SHOWN_LEVELS: usize = 64;
 
 pub struct PulseSession<'a> {
     record: Record,
@@ -30,11 +28,7 @@ impl Session for PulseSession<'_> {
 
     fn line(&mut self, line: &str, out: &mut dyn Write) -> Result<Flow, Failure> {
         match line::read(line)? {
-            Line::Trains(list) => {
-                for trains in &list {
-                    self.trains(trains, out)?;
-                }
-            }
+            Line::Trains(list) => self.trains(&list, out)?,
             Line::Ask(pulses) => self.ask(pulses, out)?,
             Line::Tick(times) => self.call(&format!("tick x{times}"), out, |record| {
                 (0..times).try_for_each(|_| record.tick().map(drop))
@@ -44,7 +38,7 @@ impl Session for PulseSession<'_> {
             }
             Line::Remove => self.call("remove", out, |record| record.remove().map(drop))?,
             Line::Wait(limit) => self.wait(limit, out)?,
-            Line::State => say_all(out, &state::whole(&self.record))?,
+            Line::State => show::below(out, &state::whole(&self.record))?,
             Line::Help => write!(out, "{}", super::LINES)?,
             Line::Quit => return Ok(Flow::Ends),
         }
@@ -86,25 +80,41 @@ impl<'a> PulseSession<'a> {
         }
     }
 
-    fn trains(&mut self, trains: &Trains, out: &mut dyn Write) -> Result<(), Failure> {
-        let before = self.record;
-        match self.exchange(trains) {
-            Err(refusal) => self.refuse(&shown(trains), refusal, out),
-            Ok((levels, mut remarks)) => {
-                let meaning = state::meaning(trains.pulses, &before);
-                let levels = shown_levels(&levels);
-                writeln!(out, "{:<8} {levels}  {meaning}", shown(trains))?;
-                remarks.extend(not_obeyed(trains.pulses, &before));
-                remarks.extend(state::changes(&before, &self.record));
-                remarks.dedup();
-                say_all(out, &remarks)
-            }
+    /// A line of trains is one exchange: it is sent whole or not at all.
+    fn trains(&mut self, list: &[Trains], out: &mut dyn Write) -> Result<(), Failure> {
+        let counts = line::counts(list);
+        let Some(steps) = self.exchange(&show::line(list), &counts, out)? else {
+            return Ok(());
+        };
+        let mut rest = steps.as_slice();
+        for trains in list {
+            let (these, later) = rest.split_at(trains.times as usize);
+            self.tell_trains(trains, these, out)?;
+            rest = later;
         }
+        Ok(())
+    }
+
+    fn tell_trains(
+        &mut self,
+        trains: &Trains,
+        steps: &[Step],
+        out: &mut dyn Write,
+    ) -> Result<(), Failure> {
+        let (before, after) = (&steps[0].before, &steps[steps.len() - 1].after);
+        let (sent, levels) = (show::trains(trains), show::levels(steps));
+        let meaning = state::meaning(trains.pulses, before);
+        writeln!(out, "{sent:<8} {levels}  {meaning}")?;
+        let mut remarks = self.remarks(steps);
+        remarks.extend(show::not_obeyed(trains.pulses, before));
+        remarks.extend(state::changes(before, after));
+        remarks.dedup();
+        show::below(out, &remarks)
     }
 
     /// A report train and all the 2s that bring its bits.
     fn ask(&mut self, pulses: u16, out: &mut dyn Write) -> Result<(), Failure> {
-        let Some(bits) = reports::length(pulses) else {
+        let Some(counts) = reports::trains(pulses) else {
             return Err(Failure::work(format!(
                 "{pulses} asks for no report: say 6, 7, 8, 9, 32 or 33"
             )));
@@ -116,46 +126,54 @@ impl<'a> PulseSession<'a> {
             ));
         }
         let before = self.record;
-        let twos = Trains {
-            pulses: train::NEXT_BIT,
-            times: bits as u32 + 1,
+        let asked = format!("ask {pulses}");
+        let Some(steps) = self.exchange(&asked, &counts, out)? else {
+            return Ok(());
         };
-        let asked = self.exchange(&Trains { pulses, times: 1 });
-        match asked.and_then(|_| self.exchange(&twos)) {
-            Err(refusal) => self.refuse("ask", refusal, out),
-            Ok((levels, mut remarks)) => {
-                let name = state::meaning(pulses, &before);
-                writeln!(
-                    out,
-                    "{:<8} {}  {name}",
-                    format!("ask {pulses}"),
-                    shown_levels(&levels)
-                )?;
-                remarks.extend(state::changes(&before, &self.record));
-                say_all(out, &remarks)
+        let (opening, items) = steps.split_at(1);
+        // What opens the report is heard, and only its items are told.
+        self.remarks(opening);
+        let (levels, name) = (show::levels(items), state::meaning(pulses, &before));
+        writeln!(out, "{asked:<8} {levels}  {name}")?;
+        let mut remarks = self.remarks(items);
+        remarks.extend(state::changes(&before, &self.record));
+        show::below(out, &remarks)
+    }
+
+    /// Sends a line's list by one call and takes over the drive that it left. `None` where it was refused, which is told.
+    fn exchange(
+        &mut self,
+        line: &str,
+        counts: &[u16],
+        out: &mut dyn Write,
+    ) -> Result<Option<Vec<Step>>, Failure> {
+        match Sent::by_one_call(&self.record, counts) {
+            Ok(sent) => {
+                let exchange = sent.walked()?;
+                self.record = exchange.left;
+                Ok(Some(exchange.steps))
+            }
+            Err(refusal) => {
+                self.refused += 1;
+                show::unsent(line, counts, refusal, out)?;
+                Ok(None)
             }
         }
     }
 
-    /// Sends one train as often as told: the levels, and what there is to say of the reports.
-    fn exchange(&mut self, trains: &Trains) -> Result<(Vec<Level>, Vec<String>), Refusal> {
-        let mut levels = Vec::new();
+    /// What there is to say of the reports that these trains belong to.
+    fn remarks(&mut self, steps: &[Step]) -> Vec<String> {
         let mut remarks = Vec::new();
-        for _ in 0..trains.times {
-            let before = self.record;
-            levels.push(self.record.train(trains.pulses)?);
-            let heard = self.listener.hear(trains.pulses, &before, &self.record);
-            remarks.extend(self.remark(&heard));
+        for step in steps {
+            let heard = self.listener.hear(step);
+            remarks.extend(self.remark(&heard, &step.after));
         }
-        Ok((levels, remarks))
+        remarks
     }
 
-    fn remark(&self, heard: &Heard) -> Vec<String> {
+    fn remark(&self, heard: &Heard, after: &Record) -> Vec<String> {
         match heard {
-            Heard::Opened => vec![format!(
-                "report open: send 2 x{}",
-                self.record.report_left()
-            )],
+            Heard::Opened => vec![format!("report open: send 2 x{}", after.report_left())],
             Heard::Closed => self.listener.explain(),
             Heard::Repeat => vec!["the last level once more".into()],
             Heard::Ignored => vec!["ignored: the next 2 repeats the last level".into()],
@@ -185,7 +203,7 @@ impl<'a> PulseSession<'a> {
             return self.refuse(what, refusal, out);
         }
         writeln!(out, "{what}")?;
-        say_all(out, &[state::summary(&self.record)])
+        show::below(out, &[state::summary(&self.record)])
     }
 
     fn refuse(&mut self, what: &str, refusal: Refusal, out: &mut dyn Write) -> Result<(), Failure> {
@@ -198,40 +216,4 @@ impl<'a> PulseSession<'a> {
         )?;
         Ok(())
     }
-}
-
-fn say_all(out: &mut dyn Write, lines: &[String]) -> Result<(), Failure> {
-    for line in lines {
-        writeln!(out, "         {line}")?;
-    }
-    Ok(())
-}
-
-fn shown(trains: &Trains) -> String {
-    match trains.times {
-        1 => trains.pulses.to_string(),
-        times => format!("{} x{times}", trains.pulses),
-    }
-}
-
-fn shown_levels(levels: &[Level]) -> String {
-    let first: Vec<String> = levels
-        .iter()
-        .take(SHOWN_LEVELS)
-        .map(Level::to_string)
-        .collect();
-    let heading = if levels.len() == 1 { "level" } else { "levels" };
-    let mut text = format!("{heading} {}", first.join(" "));
-    if levels.len() > SHOWN_LEVELS {
-        text.push_str(&format!(" and {} more", levels.len() - SHOWN_LEVELS));
-    }
-    text
-}
-
-/// A held error keeps the drive from every command but reset and reports, and nothing else shows that.
-fn not_obeyed(pulses: u16, before: &Record) -> Option<String> {
-    let always_taken = pulses <= train::NEXT_BIT || reports::length(pulses).is_some();
-    let command = words::pulses::train_name(pulses).is_some() && !always_taken;
-    let held = before.error() != 0 && before.report_left() == 0;
-    (command && held).then(|| "not obeyed: an error is held; ask 7 tells and clears it".into())
 }
