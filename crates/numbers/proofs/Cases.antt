@@ -30,6 +30,10 @@ pub no-l : (a b : Bool) → (a || b) ≡ false → a ≡ false
 no-l true b e = absurd (true≢false e)
 no-l false b e = refl
 
+pub no-r : (a b : Bool) → (a || b) ≡ false → b ≡ false
+no-r true b e = absurd (true≢false e)
+no-r false b e = e
+
 -- one of two holds
 pub or-by : {G : Type 0} (a b : Bool) → (a || b) ≡ true → (a ≡ true → G) → (b ≡ true → G) → G
 or-by true b e f g = f refl

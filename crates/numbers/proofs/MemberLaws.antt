@@ -1,4 +1,4 @@
--- A table that is searched from its start, and the bound of its members.
+-- A table that is searched from its start, what is not in it, and the bound of its members.
 -- Assumes nothing.
 use mathlib.Core.Path.{_≡_, refl}
 use mathlib.Core.Bool.{Bool, true, false}
@@ -11,7 +11,7 @@ use lib.ListN.{length, getD, drop, drop-of-length-le}
 use lib.Seq.{drop-cons}
 use Rattle.numbers.specs.Choice.{_≡ᵇ_}
 use Rattle.numbers.specs.Member.{isIn}
-use Rattle.numbers.proofs.Cases.{never, or-by}
+use Rattle.numbers.proofs.Cases.{never, no-l, no-r, or-by}
 
 module _ (x : ℕ) (xs : List ℕ) (i : ℕ) (y : Bool) (so-far : isIn x (drop i xs) ≡ y) where
   pub found : i < length xs → getD xs i 0 ≡ x → true ≡ y
@@ -25,6 +25,11 @@ module _ (x : ℕ) (xs : List ℕ) (i : ℕ) (y : Bool) (so-far : isIn x (drop i
   pub not-found : length xs ≤ i → false ≡ y
   unfolding isIn
   not-found h = rw (drop-of-length-le xs h) at so-far
+
+-- what is not in a table is not its first, nor in the rest
+pub not-in-parts : (x y : ℕ) (ys : List ℕ) → isIn x (y ∷ ys) ≡ false → ((y ≡ᵇ x) ≡ false) × (isIn x ys ≡ false)
+unfolding isIn
+not-in-parts x y ys e = (no-l (y ≡ᵇ x) (isIn x ys) e, no-r (y ≡ᵇ x) (isIn x ys) e)
 
 -- the largest of a table
 unfoldable pub largest : List ℕ → ℕ

@@ -1,4 +1,4 @@
--- Whether a number stands in a short table.
+-- Whether a number stands in a table.
 -- Assumes nothing.
 use Prim.Native.Nat.{ℕ}
 use mathlib.Core.Bool.{Bool, false, _||_}

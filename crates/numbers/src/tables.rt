@@ -1,4 +1,4 @@
-// Short constant tables, as those of the speeds and of the admitted errors.
+// A number looked for in a table: the speeds, the admitted errors, a list of pulse counts.
 ghost use mathlib.Core.Path.{_≡_};
 ghost use Rattle.numbers.specs.Member.{isIn};
 

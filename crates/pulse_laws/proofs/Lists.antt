@@ -1,7 +1,7 @@
 -- A list of trains is its trains sent singly, and the recovery may go by it.
 -- Assumes nothing.
 use Prim.Native.Nat.{ℕ, zero, suc, _+_, _≤_}
-use mathlib.Core.Bool.{Bool, true, false, _||_, true≢false}
+use mathlib.Core.Bool.{true, false}
 use mathlib.Core.List.{List, [], _∷_, map, map-map}
 use mathlib.Core.Path.{_≡_, refl, sym, ap, _∙_}
 use native.Mathlib.Nat.{le-refl}
@@ -9,9 +9,10 @@ use native.Mathlib.Omega.{arith}
 use borrow.Author.Tests.{le-ltb, ltb-false, not-false}
 use lib.ListN.{drop, length, replicate, take}
 use lib.Seq.{drop-append-seam}
-use Rattle.numbers.specs.Choice.{_≡ᵇ_, _<ᵇ_}
+use Rattle.numbers.specs.Choice.{_<ᵇ_}
 use Rattle.numbers.specs.Member.{isIn}
 use Rattle.numbers.specs.Over.{over}
+use Rattle.numbers.proofs.MemberLaws.{not-in-parts}
 use Rattle.numbers.proofs.OverLaws.{over-length, over-part}
 use Rattle.pulse.specs.declared.calls.Step.{Step}
 use Rattle.pulse.specs.declared.drive.Drive.{Drive}
@@ -29,16 +30,6 @@ use Rattle.pulse_laws.specs.Demands.{Recovered}
 use Rattle.pulse_laws.specs.Lists.{LevelsBeyondKept, ListIsSingles, ListReaches, RecoversByList, RegainedByList, SentSingly}
 use Rattle.pulse_laws.specs.Runs.{Reachable, afterTicks, afterTrains, answers, beforeErrorReport, by-train, recoveryTrains, silentTicks}
 
--- ---- a list without a 0, by its first train and the rest
-
-pub none-first : (n : ℕ) (ns : List ℕ) → isIn 0 (n ∷ ns) ≡ false → ((n ≡ᵇ 0) ≡ false) × (isIn 0 ns ≡ false)
-unfolding isIn
-none-first n ns e = neither (n ≡ᵇ 0) (isIn 0 ns) e
-  where
-    neither : (a b : Bool) → (a || b) ≡ false → (a ≡ false) × (b ≡ false)
-    neither true b p = absurd (true≢false p)
-    neither false b p = (refl, p)
-
 -- ---- sent singly
 
 record Singly (d : Drive) (ns : List ℕ) : Type 0 where
@@ -50,7 +41,7 @@ singly : (d : Drive) (ns : List ℕ) → Rules d → isIn 0 ns ≡ false → Sin
 unfolding answers afterTrains afterList levelsOf
 singly d [] r e = record { answered = refl; drive = refl; levels = refl }
 singly d (n ∷ ns) r e =
-    let z = none-first n ns e in
+    let z = not-in-parts 0 n ns e in
     let s = singly (trainStep d n) ns (train-rules d n r) (z .1) in
     let c = train-is d r n (z .0) in
     record {
@@ -100,7 +91,7 @@ reached : (d : Drive) (ns : List ℕ) → Reachable d → isIn 0 ns ≡ false �
 unfolding afterList
 reached d [] r e = r
 reached d (n ∷ ns) r e =
-    let z = none-first n ns e in
+    let z = not-in-parts 0 n ns e in
     let c = train-is d (to-rules d (reachable-keeps r)) n (z .0) in
     let t : Reachable (trainStep d n) = rw c at (by-train d n r (rw c refl)) in
     reached (trainStep d n) ns t (z .1)
@@ -116,7 +107,7 @@ unfolding afterTicks
 ticks-kept zero d e = e
 ticks-kept (suc k) d e = rules-kept .tick (afterTicks k d) (ticks-kept k d e)
 
--- a list that keeps its places is mapped place by place
+-- mapping keeps places
 map-drop : {A B : Type 0} (f : A → B) (k : ℕ) (xs : List A) → drop k (map f xs) ≡ map f (drop k xs)
 map-drop f zero xs = refl
 map-drop f (suc k) [] = refl
