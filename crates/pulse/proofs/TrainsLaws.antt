@@ -74,5 +74,3 @@ module _ (d : Drive) (counts levels : List ℕ) (b : Bool) (p : b ≡ not (keeps
         → told ≡ over levels 0 (levelsOf d counts) → sent r told ≡ trainsCall d counts levels
     unfolding trainsCall
     list-done r x told f l q s t = rw (← p, e, ← o, f, le-ltb _ _ l, q, s, t)
-
-pub ruleset listWays = (list-broken, list-empty, list-short, list-done)

@@ -45,7 +45,7 @@ module _ (d : Drive) (e : keepsRules d ≡ true) where
       wait-by (λ (w : Waited). keepsRules (w .drive) ≡ true) d limit (λ p. e)
       (λ p. of-rules (runFor (stepsTo limit d) d) (run-rules (stepsTo limit d) d (to-rules d e)))
 
-pub list-rules : (d : Drive) (counts : List ℕ) → Rules d → Rules (afterList d counts)
+list-rules : (d : Drive) (counts : List ℕ) → Rules d → Rules (afterList d counts)
 unfolding afterList
 list-rules d [] r = r
 list-rules d (n ∷ ns) r = list-rules (trainStep d n) ns (train-rules d n r)
