@@ -1,12 +1,13 @@
 -- `Drive::trains` meets its contract.
 -- Assumes nothing.
+use native.Mathlib.Omega.{arith}
 use borrow.Author.Needs.{needs}
 use Rattle.pulse.proofs.TrainsLaws.{list-broken, list-empty, list-short, list-done}
 use Rattle.pulse.proofs.drive.Drive.trains.Statement.{statement}
 use Rattle.pulse.proofs.drive.Drive.trains.Tie as tie
 
 send-requires : tie.Need-send-requires
-send-requires c κs = c .before .if3 .left
+send-requires c κs = omega arith
 
 returns-4 : tie.Need-returns-4
 returns-4 c =
@@ -14,7 +15,7 @@ returns-4 c =
     let t = s .before .before in
     let i = t .before .before in
     let b = i .before in
-    list-done _ _ _ _ (b .before .breaks-rules .ensures) _ (i .is-in .ensures) (b .if1 .left) _ _ _ (t .before .if2 .left) (t .if3 .left) (c .accept .ensures)
+    list-done _ _ _ _ (b .before .breaks-rules .ensures) _ (i .is-in .ensures) (b .if1 .left) _ _ _ (t .before .if2 .left) (omega arith) (c .accept .ensures)
     (s .send .ensures .0) (s .send .ensures .1)
 
 returns : tie.Need-returns
@@ -29,7 +30,7 @@ returns-3 : tie.Need-returns-3
 returns-3 c =
     let i = c .before .before .before in
     let b = i .before in
-    list-short _ _ _ _ (b .before .breaks-rules .ensures) _ (i .is-in .ensures) (b .if1 .left) _ (c .before .before .if2 .left) (c .before .if3 .taken)
+    list-short _ _ _ _ (b .before .breaks-rules .ensures) _ (i .is-in .ensures) (b .if1 .left) _ (c .before .before .if2 .left) (omega arith)
     (c .refuse3 .ensures)
 
 pub trains-spec : {M : Type 1} → statement M
