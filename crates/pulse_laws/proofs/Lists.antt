@@ -27,7 +27,7 @@ use Rattle.pulse_laws.proofs.Recovery.{no-pauses, recovers-at-any-pace}
 use Rattle.pulse_laws.proofs.Rules.{Rules, to-rules}
 use Rattle.pulse_laws.proofs.Trains.{train-rules}
 use Rattle.pulse_laws.specs.Demands.{Recovered}
-use Rattle.pulse_laws.specs.Lists.{LevelsBeyondKept, ListIsSingles, ListReaches, RecoversByList, RegainedByList, SentSingly}
+use Rattle.pulse_laws.specs.Lists.{BeyondKept, LevelsBeyondKept, ListIsSingles, ListReaches, RecoversByList, RegainedByList, SentSingly}
 use Rattle.pulse_laws.specs.Runs.{Reachable, afterTicks, afterTrains, answers, beforeErrorReport, by-train, recoveryTrains, silentTicks}
 
 -- ---- sent singly
@@ -81,8 +81,7 @@ list-is-singles d counts levels =
 
 pub levels-beyond-kept : LevelsBeyondKept
 levels-beyond-kept d counts levels =
-    trains-by (λ (x : Sent). (drop (length counts) (x .levels) ≡ drop (length counts) levels) × (length (x .levels) ≡ length levels)) d counts levels
-    (λ p. (refl, refl)) (λ p z. (refl, refl)) (λ p z l. (refl, refl))
+    trains-by (λ (x : Sent). BeyondKept counts levels (x .levels)) d counts levels (λ p. (refl, refl)) (λ p z. (refl, refl)) (λ p z l. (refl, refl))
     (λ p z l. (beyond d counts levels l, over-length levels (levelsOf d counts) 0 (fits d counts levels l)))
 
 -- ---- where a list leads

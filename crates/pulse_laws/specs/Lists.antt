@@ -27,11 +27,11 @@ ListIsSingles =
     SentSingly d counts (trainsCall d counts levels)
 
 -- "Bytes of the level buffer beyond the list stay.", and it has as many as it had
+abbrev pub BeyondKept : List ℕ → List ℕ → List ℕ → Type 0
+BeyondKept counts before after = (drop (length counts) after ≡ drop (length counts) before) × (length after ≡ length before)
+
 abbrev pub LevelsBeyondKept : Type 0
-LevelsBeyondKept =
-    (d : Drive) (counts levels : List ℕ) →
-    (drop (length counts) (trainsCall d counts levels .levels) ≡ drop (length counts) levels)
-    × (length (trainsCall d counts levels .levels) ≡ length levels)
+LevelsBeyondKept = (d : Drive) (counts levels : List ℕ) → BeyondKept counts levels (trainsCall d counts levels .levels)
 
 -- a list leads to no drive that single trains do not lead to
 abbrev pub ListReaches : Type 0
