@@ -1,4 +1,6 @@
 // Sends the bytes on standard input to a pulse drive as trains, from power-on with vendor and ROM 0, and writes each train with its level.
+#![tactic(auto)]
+
 ghost use Rattle.std.specs.Prelude.{◌≡◌};
 ghost use Rattle.bench.specs.Bytes.{byte_call};
 

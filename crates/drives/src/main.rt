@@ -1,5 +1,7 @@
 // Runs a script of pulse calls from standard input through the C interface and prints each call with its answer: 01's pulse section with a
 // cartridge in, sentence by sentence and by name (stdin), held to what 01 says (stdout). A script has at most 65,536 bytes.
+#![tactic(auto)]
+
 mod calls; // calls.rt: one call sent, and its answer
 mod parts; // parts.rt: the parts of a record
 mod script; // script.rt: a line of the script, taken apart

@@ -1,4 +1,6 @@
 // The floppy tape device (QIC-172): every packet answered over a lent image with U = C and a lent buffer.
+#![tactic(auto)]
+
 pub mod work; // work.rt: one function a command
 
 ghost use Rattle.std.specs.Prelude.{◌≡◌};

@@ -1,4 +1,6 @@
 // The parts of the floppy tape device that are its own.
+#![tactic(auto)]
+
 pub mod checks; // checks.rt: what each command asks before its work
 pub mod headers; // headers.rt: the images that it takes
 pub mod replies; // replies.rt: the tape parameters page

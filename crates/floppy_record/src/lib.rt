@@ -1,4 +1,6 @@
 // 02, A1: the floppy tape device's record in bytes.
+#![tactic(auto)]
+
 ghost use Rattle.std.specs.Prelude.{◌≡◌, ◌≤◌, length};
 ghost use Rattle.floppy_record.specs.FloppyRecord.{decode_tape, decode_floppy, encode_tape, encode_floppy};
 

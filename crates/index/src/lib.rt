@@ -1,4 +1,6 @@
 // 02, A4: an index of filemark places, in a second lent buffer, beside the packets of the stream device.
+#![tactic(auto)]
+
 pub mod checking; // checking.rt: an index compared with a fresh one (refusals 9 and 10)
 pub mod commands; // commands.rt: the packets for which the entries answer
 pub mod entries; // entries.rt: the entries of an index, read and written

@@ -1,3 +1,5 @@
 // What the programs that run a script share: its lines taken apart, and what they print.
+#![tactic(auto)]
+
 pub mod line; // line.rt: where a line ends, and its bytes in hexadecimal
 pub mod show; // show.rt: text, numbers and bytes on standard output

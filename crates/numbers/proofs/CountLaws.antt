@@ -67,7 +67,8 @@ bytes_read_back (suc (suc k)) v rest b =
     let last = ((v % 256) ∷ []) ++ rest in
     let e = ap (λ (i : ℕ). get_or (high ++ last) i 0) n ∙ get_or-append_seam high (v % 256) rest 0 in
     let w = bytes_read_back (suc k) (v / 256) last (omega arith) in
-    rw (append_assoc high ((v % 256) ∷ []) rest) (omega (arith, e, w))
+    let g : count_at (high ++ last) 0 (suc (suc k)) ≡ v = omega (arith, e, w) in
+    ap (λ (s : List ℕ). count_at s 0 (suc (suc k))) (append_assoc high ((v % 256) ∷ []) rest) ∙ g
 
 -- what stands before a number does not change it
 pub count_after : (xs ys : List ℕ) (p k : ℕ) → count_at (xs ++ ys) (length xs + p) k ≡ count_at ys p k

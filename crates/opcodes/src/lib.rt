@@ -1,4 +1,6 @@
 // 01: "the opcode's class comes from a table of 256 entries, one for each first byte."
+#![tactic(auto)]
+
 ghost use Rattle.std.specs.Prelude.{◌≡◌};
 ghost use Rattle.opcodes.specs.Commands.{stream_command, floppy_command, command_of_class};
 

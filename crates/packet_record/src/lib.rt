@@ -1,4 +1,6 @@
 // The packet drive's record and answer in bytes.
+#![tactic(auto)]
+
 ghost use Rattle.std.specs.Prelude.{◌≡◌, ◌≤◌, length};
 ghost use Rattle.packet_record.specs.PacketRecord.{attention_of, attention_byte, decode_state, encode_state, encode_answer};
 

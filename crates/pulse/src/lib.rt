@@ -1,4 +1,6 @@
 // The pulse drive (QIC-117): a record that turns into the next by train, tick, insertion and removal.
+#![tactic(auto)]
+
 pub mod drive; // drive.rt: the record, power-on, and one part replaced
 mod rules; // rules.rt: the record rules
 mod motion; // motion.rt: runs, loads, stops, ticks and the held error

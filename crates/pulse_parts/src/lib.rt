@@ -1,4 +1,6 @@
 // The parts of the pulse drive's record and the tests on them.
+#![tactic(auto)]
+
 pub mod cartridge; // cartridge.rt: the cartridge's description
 pub mod head; // head.rt: where the tape stands and where it goes
 pub mod marks; // marks.rt: what the drive remembers of the cartridge

@@ -1,4 +1,6 @@
 // The pulse drive's record, cartridge description and answer in bytes.
+#![tactic(auto)]
+
 ghost use Rattle.std.specs.Prelude.{◌≡◌, ◌%◌, ◌^◌, ◌≤◌, length};
 ghost use Rattle.pulse_record.specs.PulseRecord.{motion_of, motion_byte, unsent, waiting_of, waited_code, waited_held, waited_value};
 ghost use Rattle.pulse_record.specs.PulseRecord.{cartridge_of, cartridge_byte, described_cartridge, described_place, marks_of, marks_byte};

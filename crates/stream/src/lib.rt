@@ -1,4 +1,6 @@
 // The packet drive (stream device): every packet answered over a lent image and a lent buffer.
+#![tactic(auto)]
+
 pub mod work; // work.rt: one function a command
 
 ghost use Rattle.std.specs.Prelude.{◌≡◌};

@@ -1,4 +1,6 @@
 // The C interface of the card. Each call decodes a record, makes one call of an engine, and encodes what it leaves; none has a `requires`.
+#![tactic(auto)]
+
 pub mod exchange_calls; // exchange_calls.rt: the calls that exchange a cartridge with a tape file
 pub mod floppy_calls; // floppy_calls.rt: the calls of the floppy tape device
 pub mod index_calls; // index_calls.rt: the calls with an index of filemark places

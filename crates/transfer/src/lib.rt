@@ -1,4 +1,6 @@
 // Runs over the tape, one loop each: plain numbers in, no record and no sense.
+#![tactic(auto)]
+
 ghost use Rattle.std.specs.Prelude.{◌≡◌};
 ghost use Rattle.transfer.specs.Moving.{halts};
 
