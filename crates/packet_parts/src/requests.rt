@@ -5,7 +5,7 @@ ghost use Rattle.packet_parts.specs.Requests.{request_under};
 use numbers::counts::{count3, count4};
 use opcodes::Command;
 
-#[derive(Drop)]
+#[derive(Clone, Copy)]
 pub struct Request {
     pub command: Command,
     pub flags: u8, // byte 1

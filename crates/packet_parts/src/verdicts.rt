@@ -11,7 +11,7 @@ use packet_state::state::{Attention, State, Verdict};
 const SHORT_BUFFER: u8 = 4;
 
 // What a command asks before its work.
-#[derive(Drop)]
+#[derive(Clone, Copy)]
 pub struct Asked {
     pub known: bool, // a command of the device
     pub exempt: bool, // answered whatever attention is pending
