@@ -7,7 +7,8 @@ use Rattle.transfer.proofs.writing.write_filemarks.Given as goal
 
 abbrev pub invariant-loop-left : goal.invariant-loop-left
 invariant-loop-left l =
-    (mark_from l.kinds l.end l.left l.at l.image ≡ mark_from l.kinds l.end l.n l.p l.initial.image) × ((length l.image ≡ length l.initial.image) × (l.at ≤ l.end))
+    (mark_from l.kinds l.end l.left l.at l.image ≡ mark_from l.kinds l.end l.n l.p l.initial.image)
+    × ((length l.image ≡ length l.initial.image) × (l.at ≤ l.end))
 
 abbrev pub decreases-loop-left : goal.decreases-loop-left
 decreases-loop-left l = l.left
