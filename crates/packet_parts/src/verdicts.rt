@@ -125,6 +125,7 @@ fn is_held(attention: Attention, exempt: bool) -> bool
 }
 
 // The first that holds, in 01's order, the lock after the fields.
+#[tactic(auto, unfolding(crate::specs::Verdicts::found_first))]
 fn found_first(
     attention: Attention,
     held: bool,
@@ -165,6 +166,7 @@ fn found_first(
     Verdict::Works
 }
 
+#[tactic(auto, unfolding(crate::specs::Verdicts::verdict_by))]
 pub fn verdict_by(asked: Asked, protected: bool, state: State, room: usize) -> Verdict
     ensures { result ≡ verdict_by asked protected state room }
 {
