@@ -49,7 +49,7 @@ fn digit(c: u8) -> u8
     16
 }
 
-#[derive(Drop)]
+#[derive(Clone, Copy)]
 pub struct Bytes {
     pub values: [u8; 40],
     pub count: usize,
