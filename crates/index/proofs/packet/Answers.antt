@@ -12,12 +12,12 @@ pub returns-then-short : goal.returns-then-short
 returns-then-short c = search no_room
 
 pub returns-then-fresh : goal.returns-then-fresh
-returns-then-fresh c = went_on _ _ _ _ _ _ c.if-packet-ne-PACKET_LENGTH.false _ c.header_of.ensures _ _ c.h-1.given.1
+returns-then-fresh c = went_on _ _ _ _ _ _ c.if-packet-ne-PACKET_LENGTH.false _ c.header_of.ensures _ _ c.in-Good.is
     c.keeps_record_rules-sound.ensures c.if-sound.true _ c.is_short-short.ensures c.if-short.false
     _ c.is_fresh-fresh.ensures _ _ _ c.if-fresh.true c.keep.ensures
 
 pub returns-then-sound : goal.returns-then-sound
-returns-then-sound c = not_fresh _ _ _ _ _ _ c.if-packet-ne-PACKET_LENGTH.false _ c.header_of.ensures _ _ c.h-1.given.1
+returns-then-sound c = not_fresh _ _ _ _ _ _ c.if-packet-ne-PACKET_LENGTH.false _ c.header_of.ensures _ _ c.in-Good.is
     c.keeps_record_rules-sound.ensures c.if-sound.true _ c.is_short-short.ensures c.if-short.false
     _ c.is_fresh-fresh.ensures c.if-fresh.false c.refuse-then-sound.ensures
 

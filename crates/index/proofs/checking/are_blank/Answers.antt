@@ -1,4 +1,3 @@
-use Prim.Native.Nat.{◌-◌}
 use native.Mathlib.Omega.{arith}
 use Rattle.index.proofs.LoopLaws.{byte_next, byte_done}
 use Rattle.index.proofs.checking.are_blank.Goals as goal

@@ -1,4 +1,3 @@
-use Prim.Native.Nat.{◌-◌}
 use native.Mathlib.Omega.{arith}
 use Rattle.index.proofs.LoopLaws.{blank_next}
 use Rattle.index.proofs.entries.put_blanks.Goals as goal

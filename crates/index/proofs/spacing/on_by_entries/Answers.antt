@@ -1,5 +1,4 @@
 -- `spacing::on_by_entries` meets its contract.
-use Prim.Native.Nat.{◌-◌}
 use Rattle.index.proofs.SpaceLaws.{on_none, on_within, on_beyond}
 use Rattle.index.proofs.spacing.on_by_entries.Goals as goal
 
