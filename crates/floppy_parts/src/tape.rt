@@ -7,7 +7,7 @@ use numbers::flags::{is_set, weight_of};
 use packet_state::state::{Answer, Outcome, State};
 
 // "the rest is only stored and reported"
-#[derive(Drop)]
+#[derive(Clone, Copy)]
 pub struct Reported {
     pub density: u8,
     pub fill: u8,
@@ -19,7 +19,7 @@ pub struct Reported {
     pub formatting: bool, // FW
 }
 
-#[derive(Drop)]
+#[derive(Clone, Copy)]
 pub struct Tape {
     pub bseg: u8, // blocks of a segment
     pub segtrk: u16, // segments of a track
@@ -27,13 +27,13 @@ pub struct Tape {
     pub reported: Reported,
 }
 
-#[derive(Drop)]
+#[derive(Clone, Copy)]
 pub struct Floppy {
     pub shared: State, // what every packet device keeps
     pub tape: Tape,
 }
 
-#[derive(Drop)]
+#[derive(Clone, Copy)]
 pub struct FloppyOutcome {
     pub answer: Answer,
     pub state: Floppy,

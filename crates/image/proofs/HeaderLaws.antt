@@ -1,7 +1,7 @@
 -- The header: the ways of `header_of`, what a good header keeps, and that the header goes by its bytes.
 -- Assumes nothing.
 use mathlib.Core.Path.{◌≡◌, refl, sym, ap, ◌∙◌}
-use mathlib.Core.Bool.{Bool, true, false, cond, ◌&&◌, ◌||◌, and-false, and_true, false≢true}
+use mathlib.Core.Bool.{Bool, true, false, cond, ◌&&◌, ◌||◌, and-false, and-true, false≢true}
 use borrow.Author.Tests.{le-leb, eqb-true}
 use lib.Dec.{eqb}
 use mathlib.Core.List.{List}
@@ -73,7 +73,7 @@ pub by_size : (h : Header) (r : Bool) → 1 ≤ h.capacity → h.capacity ≤ 65
     → r ≡ is_in h.size block_sizes → r ≡ all_hold (field_ranges h)
 unfolding all_hold
 by_size h r a b c d e q =
-    rw (q, le-leb _ _ a, le-leb _ _ b, le-leb _ _ c, le-leb _ _ d, le-leb _ _ e, and_true)
+    rw (q, le-leb _ _ a, le-leb _ _ b, le-leb _ _ c, le-leb _ _ d, le-leb _ _ e, and-true)
 
 -- ---- a good header
 

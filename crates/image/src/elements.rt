@@ -7,7 +7,7 @@ use crate::header::span;
 use numbers::copying::copy_block;
 use numbers::counts::put_count4;
 
-#[derive(Drop)]
+#[derive(Clone, Copy)]
 pub enum Kind {
     Data,
     Filemark,
@@ -37,6 +37,7 @@ pub fn block_place(blocks: u32, i: u32, size: u16) -> usize
     blocks as usize + span(i, size) as usize
 }
 
+#[tactic(auto, unfolding(crate::specs::Elements::kind_at, crate::specs::Elements::kind_of))]
 pub fn kind_at(image: &[u8], kinds: u32, i: u32) -> Kind
     requires { kinds + i < length image.now }
     ensures { result ≡ kind_at image.now kinds i }
@@ -170,6 +171,7 @@ pub fn set_recorded(image: &mut [u8], u: u32)
 }
 
 // Where a run from place p stored something, the elements up to its new place are those recorded.
+#[tactic(auto, unfolding(crate::specs::Elements::record_to))]
 pub fn record_to(image: &mut [u8], p: u32, place: u32)
     requires { 12 ≤ length image.old }
     ensures { image.new ≡ record_to image.old p place }

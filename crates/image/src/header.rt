@@ -6,7 +6,7 @@ ghost use Rattle.image.specs.Header.{block_sizes, fields_of, fixed_bytes, field_
 
 use numbers::counts::{count2, count4};
 
-#[derive(Drop)]
+#[derive(Clone, Copy)]
 pub struct Header {
     pub size: u16, // B, bytes of a block
     pub capacity: u32, // C, elements
@@ -19,7 +19,7 @@ pub struct Header {
 }
 
 // What the header function finds.
-#[derive(Drop)]
+#[derive(Clone, Copy)]
 pub enum Judged {
     Broken,
     Good(Header),

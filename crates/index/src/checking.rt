@@ -11,7 +11,7 @@ use image::elements::{is_filemark, kind_at};
 use image::header::Header;
 
 // What the comparison of the filemarks with the first entries finds.
-#[derive(Drop)]
+#[derive(Clone, Copy)]
 pub enum Compared {
     Differs,
     Same(u32), // so many filemarks

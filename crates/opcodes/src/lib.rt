@@ -4,7 +4,7 @@
 ghost use Rattle.std.specs.Prelude.{◌≡◌};
 ghost use Rattle.opcodes.specs.Commands.{stream_command, floppy_command, command_of_class};
 
-#[derive(Drop)]
+#[derive(Clone, Copy)]
 pub enum Command {
     Unknown,
     TestUnitReady, // 00h
@@ -48,6 +48,7 @@ const FLOPPY_CLASSES: [u8; 256] = [
 ];
 
 // The commands in the order of their classes.
+#[tactic(auto, unfolding(crate::specs::Commands::command_of_class))]
 fn command_of_class(class: u8) -> Command
     ensures { result ≡ command_of_class class }
 {

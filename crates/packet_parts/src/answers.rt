@@ -64,6 +64,7 @@ fn answer_with(state: State, status: u8, sense: Sense, blocks: u32, bytes: u32) 
     }
 }
 
+#[tactic(auto, unfolding(crate::specs::Answers::ends))]
 pub fn end(state: State, ending: Ending, blocks: u32, bytes: u32) -> Outcome
     ensures { result ≡ ends state ending blocks bytes }
 {

@@ -5,7 +5,7 @@ ghost use Rattle.packet_parts.specs.Requests.{request_under};
 use numbers::counts::{count3, count4};
 use opcodes::Command;
 
-#[derive(Drop)]
+#[derive(Clone, Copy)]
 pub struct Request {
     pub command: Command,
     pub flags: u8, // byte 1
@@ -15,6 +15,7 @@ pub struct Request {
     pub length: u8, // byte 4
 }
 
+#[tactic(auto, unfolding(crate::specs::Requests::request_under))]
 pub fn request_under(command: Command, packet: &[u8]) -> Request
     requires { length packet.now ≡ 12 }
     ensures { (result ≡ request_under command packet.now) × (result.count < 2 ^ 24) }

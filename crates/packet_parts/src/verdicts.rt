@@ -11,7 +11,7 @@ use packet_state::state::{Attention, State, Verdict};
 const SHORT_BUFFER: u8 = 4;
 
 // What a command asks before its work.
-#[derive(Drop)]
+#[derive(Clone, Copy)]
 pub struct Asked {
     pub known: bool, // a command of the device
     pub exempt: bool, // answered whatever attention is pending
@@ -125,6 +125,7 @@ fn is_held(attention: Attention, exempt: bool) -> bool
 }
 
 // The first that holds, in 01's order, the lock after the fields.
+#[tactic(auto, unfolding(crate::specs::Verdicts::found_first))]
 fn found_first(
     attention: Attention,
     held: bool,
@@ -165,6 +166,7 @@ fn found_first(
     Verdict::Works
 }
 
+#[tactic(auto, unfolding(crate::specs::Verdicts::verdict_by))]
 pub fn verdict_by(asked: Asked, protected: bool, state: State, room: usize) -> Verdict
     ensures { result ≡ verdict_by asked protected state room }
 {

@@ -8,6 +8,7 @@ use numbers::counts::{count2, count4, put_count2, put_count4};
 use numbers::flags::{is_set, weight_of};
 use packet_state::state::{Answer, Attention, Sense, State};
 
+#[tactic(auto, unfolding(crate::specs::PacketRecord::attention_of))]
 fn attention_of(byte: u8) -> Attention
     ensures { result ≡ attention_of byte }
 {
@@ -28,6 +29,7 @@ fn attention_byte(attention: Attention) -> u8
     }
 }
 
+#[tactic(auto, unfolding(crate::specs::PacketRecord::decode_state))]
 pub fn decode_state(bytes: &[u8]) -> State
     requires { 16 ≤ length bytes.now }
     ensures { result ≡ decode_state bytes.now }
@@ -53,6 +55,7 @@ pub fn decode_state(bytes: &[u8]) -> State
     }
 }
 
+#[tactic(auto, unfolding(crate::specs::PacketRecord::encode_state))]
 pub fn encode_state(state: State) -> [u8; 16]
     ensures { result ≡ encode_state state }
 {
@@ -73,6 +76,7 @@ pub fn encode_state(state: State) -> [u8; 16]
     bytes
 }
 
+#[tactic(auto, unfolding(crate::specs::PacketRecord::encode_answer))]
 pub fn encode_answer(answer: Answer) -> [u8; 16]
     ensures { result ≡ encode_answer answer }
 {

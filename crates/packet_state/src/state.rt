@@ -4,14 +4,14 @@ ghost use Rattle.packet_state.specs.States.{at_place, with_loaded, with_locked, 
 
 use crate::senses::no_sense;
 
-#[derive(Drop)]
+#[derive(Clone, Copy)]
 pub enum Attention {
     Nothing,
     MediumChanged,
     Reset,
 }
 
-#[derive(Drop)]
+#[derive(Clone, Copy)]
 pub struct Sense {
     pub key: u8,
     pub asc: u8,
@@ -22,7 +22,7 @@ pub struct Sense {
     pub information: u32,
 }
 
-#[derive(Drop)]
+#[derive(Clone, Copy)]
 pub struct State {
     pub position: u32, // P
     pub loaded: bool,
@@ -32,7 +32,7 @@ pub struct State {
     pub sense: Sense,
 }
 
-#[derive(Drop)]
+#[derive(Clone, Copy)]
 pub struct Answer {
     pub number: u8, // the refusal's number, 0 where the packet is answered
     pub status: u8,
@@ -41,21 +41,21 @@ pub struct Answer {
     pub marked: u32, // 02, A6: of the blocks that a READ copied
 }
 
-#[derive(Drop)]
+#[derive(Clone, Copy)]
 pub struct Outcome {
     pub answer: Answer,
     pub state: State,
 }
 
 // How a packet that is answered ends.
-#[derive(Drop)]
+#[derive(Clone, Copy)]
 pub enum Ending {
     Good,
     Check(Sense),
 }
 
 // What is found before the work.
-#[derive(Drop)]
+#[derive(Clone, Copy)]
 pub enum Verdict {
     Refuses(u8),
     Ends(Sense),
