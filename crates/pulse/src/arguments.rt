@@ -8,6 +8,7 @@ use pulse_codes::{Nibble, Waiting, arguments, codes, errors};
 use pulse_parts::head;
 
 impl Drive {
+    #[tactic(auto, unfolding(crate::specs::Arguments::track_sought))]
     fn seek_track(self, track: u16) -> Self
         ensures { result ≡ track_sought self track }
     {
@@ -17,6 +18,7 @@ impl Drive {
         self.latch(errors::ILLEGAL_TRACK, codes::SEEK_TRACK as u8)
     }
 
+    #[tactic(auto, unfolding(crate::specs::Arguments::skipped))]
     fn skip(self, code: u8, count: u16) -> Self
         ensures { result ≡ skipped self code count }
     {
@@ -27,6 +29,7 @@ impl Drive {
         }
     }
 
+    #[tactic(auto, unfolding(crate::specs::Arguments::nibble_taken))]
     fn take_nibble(self, code: u8, held: u8, low: u16, value: u16) -> Self
         requires { value ≤ highest_nibble }
         ensures { result ≡ nibble_taken self code held low value }
@@ -45,6 +48,7 @@ impl Drive {
         self.with_waiting(Waiting::Nothing).skip(code, sum)
     }
 
+    #[tactic(auto, unfolding(crate::specs::Arguments::argument_taken))]
     fn take_argument(self, code: u8, held: u8, low: u16, value: u16) -> Self
         requires { in_range code value ≡ true }
         ensures { result ≡ argument_taken self code held low value }
@@ -63,6 +67,7 @@ impl Drive {
         }
     }
 
+    #[tactic(auto, unfolding(crate::specs::Arguments::step_argument, crate::specs::Arguments::argument_read))]
     pub(crate) fn step_argument(self, n: u16) -> Self
         ensures { result ≡ step_argument self n }
     {

@@ -18,14 +18,14 @@ const ALREADY_SO: u8 = 7;
 
 pub(crate) const RULES_BROKEN: u8 = 8;
 
-#[derive(Drop)]
+#[derive(Clone, Copy)]
 pub struct Step {
     pub number: u8,
     pub level: bool,
     pub drive: Drive,
 }
 
-#[derive(Drop)]
+#[derive(Clone, Copy)]
 pub struct Waited {
     pub number: u8,
     pub level: bool,
@@ -54,6 +54,7 @@ impl Drive {
         }
     }
 
+    #[tactic(auto, unfolding(crate::specs::Calls::train_call))]
     pub fn train(self, pulses: u16) -> Step
         ensures { TrainPromise self pulses result }
     {
@@ -66,6 +67,7 @@ impl Drive {
         self.train_step(pulses).accept()
     }
 
+    #[tactic(auto, unfolding(crate::specs::Calls::tick_call))]
     pub fn tick(self) -> Step
         ensures { TickPromise self result }
     {
@@ -75,6 +77,7 @@ impl Drive {
         self.tick_step().accept()
     }
 
+    #[tactic(auto, unfolding(crate::specs::Calls::insert_call))]
     pub fn insert(self, cart: Cartridge, place: u16) -> Step
         ensures { InsertPromise self cart place result }
     {
@@ -90,6 +93,7 @@ impl Drive {
         self.insert_step(cart, place).accept()
     }
 
+    #[tactic(auto, unfolding(crate::specs::Calls::remove_call))]
     pub fn remove(self) -> Step
         ensures { RemovePromise self result }
     {
@@ -139,6 +143,7 @@ impl Drive {
         now.accept_wait(used)
     }
 
+    #[tactic(auto, unfolding(crate::specs::Calls::wait_call))]
     pub fn wait(self, limit: u32) -> Waited
         ensures { WaitPromise self limit result }
     {

@@ -7,6 +7,7 @@ use pulse_codes::{Waiting, errors};
 use pulse_parts::{fault, head, marks};
 
 impl Drive {
+    #[tactic(auto, unfolding(crate::specs::Commands::obeyed))]
     fn obey(self, code: u8) -> Self
         ensures { result ≡ obeyed self code }
     {
@@ -28,6 +29,7 @@ impl Drive {
         }
     }
 
+    #[tactic(auto, unfolding(crate::specs::Commands::checked))]
     fn check_command(self, code: u8) -> Self
         ensures { result ≡ checked self code }
     {
@@ -41,6 +43,7 @@ impl Drive {
         self.latch(error, code)
     }
 
+    #[tactic(auto, unfolding(crate::specs::Commands::step_command))]
     pub(crate) fn step_command(self, code: u8) -> Self
         ensures { result ≡ step_command self code }
     {

@@ -6,7 +6,7 @@ ghost use Rattle.pulse.specs.Drives.{is_ready, with_head, with_marks, with_fault
 use pulse_codes::Waiting;
 use pulse_parts::{Cartridge, Fault, Head, Marks, Report, cartridge, fault, head, marks, reports};
 
-#[derive(Drop)]
+#[derive(Clone, Copy)]
 pub struct Drive {
     pub cart: Cartridge,
     pub head: Head,
@@ -31,6 +31,7 @@ impl Drive {
 
     const POWER_ON_RATE: u8 = 2;
 
+    #[tactic(auto, unfolding(crate::specs::Drives::power_on))]
     pub fn power_on(vendor: u16, rom: u8) -> Self
         ensures { PowerOnPromise vendor rom result }
     {

@@ -19,6 +19,7 @@ impl Drive {
         d
     }
 
+    #[tactic(auto, unfolding(crate::specs::Events::inserted))]
     pub(crate) fn insert_step(self, cart: Cartridge, place: u16) -> Self
         ensures { result ≡ inserted self cart place }
     {
@@ -36,6 +37,7 @@ impl Drive {
         )
     }
 
+    #[tactic(auto, unfolding(crate::specs::Events::removed))]
     pub(crate) fn remove_step(self) -> Self
         ensures { result ≡ removed self }
     {

@@ -21,6 +21,7 @@ impl Drive {
         d
     }
 
+    #[tactic(auto, unfolding(crate::specs::Motions::load_started))]
     pub(crate) fn start_load(self) -> Self
         ensures { result ≡ load_started self }
     {
@@ -30,6 +31,7 @@ impl Drive {
         self.with_head(head::headed_for(self.head, 0, Motion::Load))
     }
 
+    #[tactic(auto, unfolding(crate::specs::Motions::run_started))]
     pub(crate) fn start_run(self, target: u16) -> Self
         ensures { result ≡ run_started self target }
     {
@@ -39,6 +41,7 @@ impl Drive {
         self.with_head(head::headed_for(self.head, target, Motion::Run))
     }
 
+    #[tactic(auto, unfolding(crate::specs::Motions::latched))]
     pub(crate) fn latch(self, error: u8, command: u8) -> Self
         ensures { result ≡ latched self error command }
     {
@@ -63,6 +66,7 @@ impl Drive {
         }
     }
 
+    #[tactic(auto, unfolding(crate::specs::Motions::arrived))]
     fn arrive(self) -> Self
         ensures { result ≡ arrived self }
     {
@@ -72,6 +76,7 @@ impl Drive {
         self
     }
 
+    #[tactic(auto, unfolding(crate::specs::Motions::ticked))]
     pub(crate) fn tick_step(self) -> Self
         ensures { result ≡ ticked self }
     {

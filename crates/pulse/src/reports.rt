@@ -7,6 +7,7 @@ use pulse_codes::{codes, errors};
 use pulse_parts::{Report, fault, head, marks, reports};
 
 impl Drive {
+    #[tactic(auto, unfolding(crate::specs::Reports::item_given))]
     fn give_item(self) -> Self
         ensures { result ≡ item_given self }
     {
@@ -17,6 +18,7 @@ impl Drive {
             .with_level(reports::item_level(self.report))
     }
 
+    #[tactic(auto, unfolding(crate::specs::Reports::step_report))]
     pub(crate) fn step_report(self, n: u16) -> Self
         ensures { result ≡ step_report self n }
     {
@@ -31,6 +33,7 @@ impl Drive {
             .latch(errors::ILLEGAL_IN_REPORT, codes::as_byte(n))
     }
 
+    #[tactic(auto, unfolding(crate::specs::Reports::report_of))]
     fn report_of(self, n: u16) -> Report
         ensures { result ≡ report_of self n }
     {
@@ -54,6 +57,7 @@ impl Drive {
         }
     }
 
+    #[tactic(auto, unfolding(crate::specs::Reports::status_asked))]
     fn ask_status(self) -> Self
         ensures { result ≡ status_asked self }
     {
@@ -63,6 +67,7 @@ impl Drive {
         self
     }
 
+    #[tactic(auto, unfolding(crate::specs::Reports::error_read))]
     fn read_error(self) -> Self
         ensures { result ≡ error_read self }
     {
@@ -74,6 +79,7 @@ impl Drive {
         self
     }
 
+    #[tactic(auto, unfolding(crate::specs::Reports::step_open_report))]
     pub(crate) fn step_open_report(self, n: u16) -> Self
         ensures { result ≡ step_open_report self n }
     {

@@ -41,6 +41,7 @@ fn nothing_inside(c: Cartridge, h: Head, m: Marks) -> bool
         & !m.fresh
 }
 
+#[tactic(auto, unfolding(crate::specs::Rules::cartridge_fits))]
 fn cartridge_fits(c: Cartridge, h: Head, m: Marks) -> bool
     ensures { result ≡ cartridge_fits c h m }
 {
@@ -63,6 +64,7 @@ fn held_error_fits(f: Fault, h: Head) -> bool
 }
 
 impl Drive {
+    #[tactic(auto, unfolding(crate::specs::Rules::keeps_rules))]
     pub(crate) fn breaks_rules(self) -> bool
         ensures { result ≡ not (keeps_rules self) }
     {

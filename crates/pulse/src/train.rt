@@ -16,6 +16,7 @@ impl Drive {
             .with_marks(marks::forgotten(self.marks))
     }
 
+    #[tactic(auto, unfolding(crate::specs::Train::step_reset))]
     fn step_reset(self) -> Self
         ensures { result ≡ step_reset self }
     {
@@ -25,6 +26,7 @@ impl Drive {
         self.clear()
     }
 
+    #[tactic(auto, unfolding(crate::specs::Train::step_unsupported))]
     fn step_unsupported(self, n: u16) -> Self
         ensures { result ≡ step_unsupported self n }
     {
@@ -35,6 +37,7 @@ impl Drive {
         self
     }
 
+    #[tactic(auto, unfolding(crate::specs::Train::train_step))]
     pub(crate) fn train_step(self, n: u16) -> Self
         ensures { result ≡ train_step self n }
     {

@@ -29,6 +29,7 @@ impl Drive {
         drive
     }
 
+    #[tactic(auto, unfolding(crate::specs::Trains::trains_call))]
     pub fn trains(self, counts: &[u16], levels: &mut [u8]) -> Step
         ensures { TrainsPromise self counts.now levels.old (sent result levels.new) }
     {

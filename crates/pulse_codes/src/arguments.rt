@@ -10,13 +10,13 @@ const HIGHEST_NIBBLE: u16 = 15;
 pub const HIGHEST_RATE: u16 = 3;
 
 // The arguments that a code waits for: how many are held, and their value, the first nibble lowest.
-#[derive(Drop)]
+#[derive(Clone, Copy)]
 pub enum Waiting {
     Nothing,
     For { code: u8, held: u8, value: u16 },
 }
 
-#[derive(Drop)]
+#[derive(Clone, Copy)]
 pub enum Nibble {
     Value(u16),
     OutOfRange,
@@ -76,6 +76,7 @@ fn two_less(n: u16) -> u16
     n - 2
 }
 
+#[tactic(auto, unfolding(crate::specs::Arguments::nibble_of))]
 pub fn read_nibble(code: u8, n: u16) -> Nibble
     ensures { result ≡ nibble_of code n }
 {

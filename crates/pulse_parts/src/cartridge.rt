@@ -2,7 +2,7 @@
 ghost use Rattle.std.specs.Prelude.{◌≡◌};
 ghost use Rattle.pulse_parts.specs.Cartridges.{no_cartridge, is_none};
 
-#[derive(Drop)]
+#[derive(Clone, Copy)]
 pub struct Cartridge {
     pub segments: u16,
     pub tracks: u8,

@@ -7,7 +7,7 @@ use pulse_codes::errors;
 // The command of an error that no train gave.
 pub const NO_COMMAND: u8 = 0;
 
-#[derive(Drop)]
+#[derive(Clone, Copy)]
 pub struct Fault {
     pub error: u8,
     pub command: u8,

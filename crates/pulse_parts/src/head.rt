@@ -7,14 +7,14 @@ ghost use Rattle.pulse_parts.specs.Heads.{toward, skipped_back, skipped_on};
 
 use pulse_codes::codes;
 
-#[derive(Drop)]
+#[derive(Clone, Copy)]
 pub enum Motion {
     Still,
     Run,
     Load,
 }
 
-#[derive(Drop)]
+#[derive(Clone, Copy)]
 pub struct Head {
     pub place: u16,
     pub target: u16,

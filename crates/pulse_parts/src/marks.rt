@@ -4,7 +4,7 @@ ghost use Rattle.pulse_parts.specs.Marking.{no_marks, new_marks, mark_asked, mar
 
 use pulse_codes::{codes, errors};
 
-#[derive(Drop)]
+#[derive(Clone, Copy)]
 pub struct Marks {
     pub inside: bool,
     pub referenced: bool,
@@ -63,6 +63,7 @@ pub fn forgotten(m: Marks) -> Marks
 }
 
 // What a command is refused for, or 0.
+#[tactic(auto, unfolding(crate::specs::Marking::command_error))]
 pub fn command_error(m: Marks, code: u8) -> u8
     ensures { result ≡ command_error m code }
 {

@@ -23,7 +23,7 @@ const EXTRA_LENGTH: u8 = 2;
 const QIC_80: u8 = 2;
 
 // The items left, the bits not sent yet, the next one lowest, and whether a repeat is owed.
-#[derive(Drop)]
+#[derive(Clone, Copy)]
 pub struct Report {
     pub left: u8,
     pub bits: u16,
