@@ -6,8 +6,6 @@ use mathlib.Core.List.{List, [], ◌∷◌}
 use Prim.Native.Nat.{ℕ, ◌+◌, ◌*◌, ◌-◌, ◌<◌, ◌≤◌}
 use native.Mathlib.Nat.{mul-le-mul_right}
 use native.Mathlib.Omega.{arith}
-use types.Run.{OneOf, miss}
-use denote.Enum.Declared.{tag_of}
 use lib.ListN.{length}
 use Rattle.numbers.specs.Over.{part}
 use Rattle.image.specs.declared.header.Header.{Header}
@@ -21,7 +19,6 @@ use Rattle.packet_state.specs.declared.state.Outcome.{Outcome}
 use Rattle.packet_state.specs.declared.state.State.{State}
 use Rattle.packet_state.specs.States.{changed_state}
 use Rattle.packet_parts.specs.Answers.{done, refused, answered}
-use Rattle.tap.specs.contracts.items.Item
 use Rattle.tap.specs.declared.items.Item.{Item}
 use Rattle.tap.specs.declared.items.Item.TheVariants.{Ends, Mark, Record, Cut}
 use Rattle.tap.specs.declared.items.TapeRecord.{TapeRecord}
@@ -38,20 +35,20 @@ use Rattle.exchange.proofs.LayLaws.{element_laid}
 -- ---- the ways of `store_item`
 
 -- of an item that is taken, what is no record is a mark
-taken_mark : (size : ℕ) (file : List ℕ) (at : ℕ) (x : Item) → Taken size x → Sits file at x → OneOf (0 ∷ 1 ∷ 3 ∷ []) (tag_of Item.the_type x)
+taken_mark : (size : ℕ) (file : List ℕ) (at : ℕ) (x : Item) → Taken size x → Sits file at x → ((r : TapeRecord) → x ≡ Record r → ⊥)
     → (place_after x ≡ at + 4) × (element_in file x ≡ TapeMark) × (at + 4 ≤ length file)
 taken_mark size file at (Ends used) t l o = absurd t
 taken_mark size file at Cut t l o = absurd t
 taken_mark size file at (Mark next) t l o = (l.0, refl, omega (arith, l))
-taken_mark size file at (Record r) t l o = absurd (miss (0 ∷ 1 ∷ 3 ∷ []) 2 tt o)
+taken_mark size file at (Record r) t l o = absurd (o r refl)
 
 module _ (h : Header) (file : List ℕ) (at : ℕ) (taken : Taken h.size (item_at file at)) (x : Item) (read : x ≡ item_at file at) where
   abbrev Stored : List ℕ → ℕ → ℕ → List ℕ → Type 0
   Stored s i next s' = (next ≡ place_after (item_at file at)) × (s' ≡ lay_element h (element_in file (item_at file at)) i s)
 
-  module _ (other : OneOf (0 ∷ 1 ∷ 3 ∷ []) (tag_of Item.the_type x)) where
+  module _ (other : (r : TapeRecord) → x ≡ Record r → ⊥) where
     the-mark : (place_after (item_at file at) ≡ at + 4) × (element_in file (item_at file at) ≡ TapeMark) × (at + 4 ≤ length file)
-    the-mark = taken_mark h.size file at (item_at file at) taken (item_sits file at) (rw read at other)
+    the-mark = taken_mark h.size file at (item_at file at) taken (item_sits file at) (λ r e. other r (read ∙ e))
 
     pub mark-within : at + 4 ≤ length file
     mark-within = the-mark.2

@@ -29,6 +29,7 @@ fn bad_page(page: u8) -> bool
     !((page == HEADER_ALONE) | (page == DEVICE_PAGE) | (page == TAPE_PAGE))
 }
 
+#[tactic(auto, unfolding(crate::specs::Checks::asked_by))]
 fn asked_by(command: Command, h: Header, end: u32, q: Request) -> Asked
     ensures { result ≡ asked_by command h end q }
 {

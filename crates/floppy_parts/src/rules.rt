@@ -6,6 +6,7 @@ use crate::tape::{Floppy, product_of};
 use image::header::Header;
 use packet_state::rules::keeps_record_rules;
 
+#[tactic(auto, unfolding(crate::specs::Rules::keeps_floppy_rules))]
 pub fn keeps_floppy_rules(h: Header, floppy: Floppy) -> bool
     ensures { result ≡ keeps_floppy_rules h floppy }
 {

@@ -12,6 +12,7 @@ use opcodes::Command;
 use packet_parts::replies::SHORT_LIST;
 use packet_parts::requests::Request;
 
+#[tactic(auto, unfolding(crate::specs::Settings::good_tape_list))]
 pub fn is_good_tape_list(h: Header, list: &[u8]) -> bool
     requires { 28 ≤ length list.now }
     ensures { result ≡ good_tape_list h list.now }
@@ -22,6 +23,7 @@ pub fn is_good_tape_list(h: Header, list: &[u8]) -> bool
         & (listed <= h.capacity as u64)
 }
 
+#[tactic(auto, unfolding(crate::specs::Settings::selected_tape))]
 fn selected_tape(h: Header, tape: Tape, asked: u8, list: &[u8]) -> Tape
     requires { asked ≤ length list.now }
     ensures { result ≡ selected_tape h tape asked list.now }
@@ -37,6 +39,7 @@ fn selected_tape(h: Header, tape: Tape, asked: u8, list: &[u8]) -> Tape
 }
 
 // 02, A1: "After a load .. BSEG is 1, SEGTRK C, TRKS 1 and the rest 0".
+#[tactic(auto, unfolding(crate::specs::Settings::loaded_tape))]
 fn loaded_tape(h: Header, tape: Tape, load: bool) -> Tape
     requires { h.capacity ≤ 65535 }
     ensures { result ≡ loaded_tape h tape load }
@@ -47,6 +50,7 @@ fn loaded_tape(h: Header, tape: Tape, load: bool) -> Tape
     tape
 }
 
+#[tactic(auto, unfolding(crate::specs::Checks::asked_by, crate::specs::Settings::tape_after))]
 pub fn tape_after(h: Header, tape: Tape, q: Request, list: &[u8]) -> Tape
     requires capacity_bound { h.capacity ≤ 65535 }
     requires q_in_bounds { (asked_by q.command h (product tape) q).needed ≤ length list.now }

@@ -46,6 +46,7 @@ fn blocks_of(bseg: u8, segtrk: u16, trks: u16) -> u64
     bseg as u64 * segtrk as u64 * trks as u64
 }
 
+#[tactic(auto, unfolding(crate::specs::Tape::product))]
 pub fn product_of(tape: Tape) -> u64
     ensures { result ≡ product tape }
 {
@@ -81,6 +82,7 @@ pub fn reported_of(density: u8, fill: u8, sector: u8, cylinder: u8, head: u8, fl
     }
 }
 
+#[tactic(auto, unfolding(crate::specs::Tape::reset_tape))]
 pub fn reset_tape(capacity: u32) -> Tape
     requires { capacity ≤ 65535 }
     ensures { result ≡ reset_tape capacity }
@@ -95,6 +97,7 @@ pub fn reset_tape(capacity: u32) -> Tape
 }
 
 // The page of a list stands after its header of 12 bytes.
+#[tactic(auto, unfolding(crate::specs::Tape::listed_tape))]
 pub fn listed_tape(list: &[u8]) -> Tape
     requires { 28 ≤ length list.now }
     ensures { result ≡ listed_tape list.now }

@@ -12,6 +12,7 @@ use packet_state::state::{Ending, Outcome, State, stand_at, with_loaded, with_lo
 // Where the page's speed stands in a list: bytes 14-15 after the header.
 const LIST_SPEED: usize = 26;
 
+#[tactic(auto, unfolding(crate::specs::Settings::good_list))]
 fn is_good_list(list: &[u8]) -> bool
     requires { 32 ≤ length list.now }
     ensures { result ≡ good_list list.now }
@@ -21,6 +22,7 @@ fn is_good_list(list: &[u8]) -> bool
 }
 
 // A list of 32 bytes.
+#[tactic(auto, unfolding(crate::specs::Settings::speed_work))]
 pub fn select_speed(state: State, list: &[u8]) -> Outcome
     requires { 32 ≤ length list.now }
     ensures { result ≡ speed_work state list.now }
@@ -33,6 +35,7 @@ pub fn select_speed(state: State, list: &[u8]) -> Outcome
     end(state, Ending::Check(wrong_list()), 0, 0)
 }
 
+#[tactic(auto, unfolding(crate::specs::Settings::load_work))]
 pub fn load_unload(state: State, load: bool) -> Outcome
     ensures { result ≡ load_work state load }
 {
@@ -40,6 +43,7 @@ pub fn load_unload(state: State, load: bool) -> Outcome
 }
 
 // 02, A8: "PREVENT/ALLOW MEDIUM REMOVAL (1Eh, byte 4 bit 0)".
+#[tactic(auto, unfolding(crate::specs::Settings::lock_work))]
 pub fn prevent_allow(state: State, prevent: bool) -> Outcome
     ensures { result ≡ lock_work state prevent }
 {

@@ -12,6 +12,7 @@ use pulse::Drive;
 use pulse_codes::Waiting;
 use pulse_parts::{Cartridge, Fault, Head, Marks, Motion, Report};
 
+#[tactic(auto, unfolding(crate::specs::PulseRecord::motion_of))]
 fn motion_of(byte: u8) -> Motion
     ensures { result ≡ motion_of byte }
 {
@@ -32,6 +33,7 @@ fn motion_byte(motion: Motion) -> u8
     }
 }
 
+#[tactic(auto, unfolding(crate::specs::PulseRecord::unsent))]
 fn unsent(left: u8, bits: u16) -> u16
     ensures { result ≡ unsent left bits }
 {
@@ -55,6 +57,7 @@ fn held_value(held: u8, value: u16) -> u16
     }
 }
 
+#[tactic(auto, unfolding(crate::specs::PulseRecord::waiting_of))]
 fn waiting_of(code: u8, held: u8, value: u16) -> Waiting
     ensures { result ≡ waiting_of code held value }
 {
@@ -105,6 +108,7 @@ fn waited_value(waiting: Waiting) -> u16
     }
 }
 
+#[tactic(auto, unfolding(crate::specs::PulseRecord::cartridge_of))]
 fn cartridge_of(segments: u16, tracks: u8, flags: u8, format: u8, kind: u8) -> Cartridge
     ensures { result ≡ cartridge_of segments tracks flags format kind }
 {
@@ -125,6 +129,7 @@ fn cartridge_byte(c: Cartridge) -> u8
     weight_of(c.protected, 1) + weight_of(c.burst, 2) + weight_of(c.wide, 4)
 }
 
+#[tactic(auto, unfolding(crate::specs::PulseRecord::described_cartridge))]
 pub fn described_cartridge(bytes: &[u8]) -> Cartridge
     requires { 8 ≤ length bytes.now }
     ensures { result ≡ described_cartridge bytes.now }
@@ -132,6 +137,7 @@ pub fn described_cartridge(bytes: &[u8]) -> Cartridge
     cartridge_of(count2(bytes, 0), bytes[2], bytes[5], bytes[6], bytes[7])
 }
 
+#[tactic(auto, unfolding(crate::specs::PulseRecord::described_place))]
 pub fn described_place(bytes: &[u8]) -> u16
     requires { 8 ≤ length bytes.now }
     ensures { result ≡ described_place bytes.now }
@@ -160,6 +166,7 @@ fn marks_byte(m: Marks, r: Report) -> u8
         + weight_of(r.repeat, 16)
 }
 
+#[tactic(auto, unfolding(crate::specs::PulseRecord::cartridge_in))]
 fn cartridge_in(bytes: &[u8]) -> Cartridge
     requires { 32 ≤ length bytes.now }
     ensures { result ≡ cartridge_in bytes.now }
@@ -167,6 +174,7 @@ fn cartridge_in(bytes: &[u8]) -> Cartridge
     cartridge_of(count2(bytes, 2), bytes[4], bytes[5], bytes[6], bytes[7])
 }
 
+#[tactic(auto, unfolding(crate::specs::PulseRecord::head_in))]
 fn head_in(bytes: &[u8]) -> Head
     requires { 32 ≤ length bytes.now }
     ensures { result ≡ head_in bytes.now }
@@ -179,6 +187,7 @@ fn head_in(bytes: &[u8]) -> Head
     }
 }
 
+#[tactic(auto, unfolding(crate::specs::PulseRecord::report_in))]
 fn report_in(bytes: &[u8]) -> Report
     requires { 32 ≤ length bytes.now }
     ensures { result ≡ report_in bytes.now }
@@ -190,6 +199,7 @@ fn report_in(bytes: &[u8]) -> Report
     }
 }
 
+#[tactic(auto, unfolding(crate::specs::PulseRecord::waiting_in))]
 fn waiting_in(bytes: &[u8]) -> Waiting
     requires { 32 ≤ length bytes.now }
     ensures { result ≡ waiting_in bytes.now }
@@ -197,6 +207,7 @@ fn waiting_in(bytes: &[u8]) -> Waiting
     waiting_of(bytes[20], bytes[21], count2(bytes, 22))
 }
 
+#[tactic(auto, unfolding(crate::specs::PulseRecord::decode_drive))]
 pub fn decode_drive(bytes: &[u8]) -> Drive
     requires { 32 ≤ length bytes.now }
     ensures { result ≡ decode_drive bytes.now }
@@ -220,6 +231,7 @@ pub fn decode_drive(bytes: &[u8]) -> Drive
 }
 
 // The bytes in their places; those of a case or of an open report come in.
+#[tactic(auto, unfolding(crate::specs::PulseRecord::encode_drive))]
 fn lay_out(d: Drive, motion: u8, bits: u16, code: u8, held: u8, value: u16) -> [u8; 32]
     requires motion_value { motion ≡ motion_byte d.head.motion }
     requires bits_value { bits ≡ unsent d.report.left d.report.bits }
@@ -278,6 +290,7 @@ pub fn encode_drive(d: Drive) -> [u8; 32]
     lay_out(d, motion_byte(motion), bits, code, held, value)
 }
 
+#[tactic(auto, unfolding(crate::specs::PulseRecord::encode_told))]
 pub fn encode_told(number: u8, level: bool, ticks: u32) -> [u8; 8]
     ensures { result ≡ encode_told number level ticks }
 {

@@ -36,6 +36,7 @@ fn bad_page(page: u8) -> bool
     !((page == HEADER_ALONE) | (page == DEVICE_PAGE))
 }
 
+#[tactic(auto, unfolding(crate::specs::Checks::asked_by))]
 fn asked_by(command: Command, h: Header, q: Request) -> Asked
     ensures { result ≡ asked_by command h q }
 {

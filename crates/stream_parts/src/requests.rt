@@ -12,6 +12,7 @@ pub const OVER_FILEMARKS: u8 = 1;
 
 pub const TO_END_OF_DATA: u8 = 3;
 
+#[tactic(auto, unfolding(crate::specs::Requests::request_of))]
 pub fn request_of(packet: &[u8]) -> Request
     requires { length packet.now ≡ 12 }
     ensures { (result ≡ request_of packet.now) × (result.count < 2 ^ 24) }
@@ -24,12 +25,14 @@ const HALF: u32 = 0x800000;
 
 const WHOLE: u32 = 0x1000000;
 
+#[tactic(auto, unfolding(crate::specs::Requests::is_back))]
 pub fn is_back(count: u32) -> bool
     ensures { result ≡ is_back count }
 {
     HALF <= count
 }
 
+#[tactic(auto, unfolding(crate::specs::Requests::magnitude))]
 pub fn magnitude_of(count: u32) -> u32
     requires { count < 2 ^ 24 }
     ensures { result ≡ magnitude count }

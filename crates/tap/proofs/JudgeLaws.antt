@@ -1,16 +1,13 @@
 -- The ways of `turn_of`, and the loop of `judge`: what is left to read gives what the whole gives.
 -- Assumes nothing.
 use mathlib.Core.Path.{◌≡◌, refl, sym, ◌∙◌}
-use mathlib.Core.List.{List, [], ◌∷◌}
+use mathlib.Core.List.{List}
 use Prim.Native.Nat.{ℕ, suc, ◌+◌, ◌-◌, ◌<◌, ◌≤◌}
 use native.Mathlib.Omega.{arith}
 use borrow.Author.Tests.{eq-eqb, ne_eqb}
-use types.Run.{OneOf, miss}
-use denote.Enum.Declared.{tag_of}
 use lib.Dec.{eqb}
 use lib.ListN.{length}
 use Rattle.numbers.proofs.Cases.{test}
-use Rattle.tap.specs.contracts.judging.Turn
 use Rattle.tap.specs.declared.items.Item.{Item}
 use Rattle.tap.specs.declared.items.Item.TheVariants.{Ends, Mark, Record, Cut}
 use Rattle.tap.specs.declared.items.TapeRecord.{TapeRecord}
@@ -83,12 +80,12 @@ module _ (size : ℕ) (file : List ℕ) (most at n : ℕ) (g : Judging size file
   pub judge_next : (next : ℕ) → n < most → t ≡ Takes next → Judging size file most next (n + 1)
   judge_next next l e = record { within = omega arith; whole = sym (rw e at (judge_met l)) }
 
-  pub judge_closed : n < most → OneOf (1 ∷ 2 ∷ []) (tag_of Turn.the_type t) → closed t n ≡ found_from 0 (reads size file most 0)
+  pub judge_closed : n < most → ((next : ℕ) → t ≡ Takes next → ⊥) → closed t n ≡ found_from 0 (reads size file most 0)
   judge_closed l o = other t o ∙ sym (judge_met l)
     where
-      other : (t : Turn) → OneOf (1 ∷ 2 ∷ []) (tag_of Turn.the_type t)
+      other : (t : Turn) → ((next : ℕ) → t ≡ Takes next → ⊥)
           → closed t n ≡ goes_on n t (λ next. found_from (n + 1) (reads size file (most - (n + 1)) next))
-      other (Takes next) o = absurd (miss (1 ∷ 2 ∷ []) 0 tt o)
+      other (Takes next) o = absurd (o next refl)
       other (Stops used) o = refl
       other (Fails number) o = refl
 

@@ -140,7 +140,8 @@ module _ (size : ℕ) (file : List ℕ) where
   pub reads_whole : (room at : ℕ) → AllWhole size (elements_in (reads size file room at))
   reads_whole =
       reads-by (λ room at R. AllWhole size (elements_in R)) (λ room at used l. tt) (λ room at number a b. tt)
-      (λ room at t h. first_whole size (element_in file (item_at file at)) (after room at) (taken_whole size file at (item_at file at) t (item_sits file at)) h)
+      (λ room at t h. first_whole size (element_in file (item_at file at)) (after room at)
+      (taken_whole size file at (item_at file at) t (item_sits file at)) h)
 
   pub refused_number : (room at number : ℕ) → reads size file room at ≡ Refused number → (11 ≤ number) × (number ≤ 13)
   refused_number room at number e = rw e at (told room at)

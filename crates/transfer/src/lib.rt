@@ -10,7 +10,7 @@ pub mod spacing; // spacing.rt: SPACE over blocks and filemarks, both ways
 pub mod writing; // writing.rt: WRITE and WRITE FILEMARK
 
 // Why a run ended.
-#[derive(Drop)]
+#[derive(Clone, Copy)]
 pub enum Stop {
     Full, // all that was asked for is done
     AtFilemark,
@@ -19,7 +19,7 @@ pub enum Stop {
     AtBeginning,
 }
 
-#[derive(Drop)]
+#[derive(Clone, Copy)]
 pub struct Moved {
     pub place: u32, // where the tape stands
     pub left: u32, // how many of those asked for are not done

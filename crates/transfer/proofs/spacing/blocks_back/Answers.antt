@@ -1,0 +1,16 @@
+use native.Mathlib.Omega.{arith}
+use Rattle.transfer.proofs.SpaceLaws.{ways, back_next}
+use Rattle.transfer.proofs.spacing.blocks_back.Goals as goal
+
+pub returns-then-at-eq0 : goal.returns-then-at-eq0
+returns-then-at-eq0 c = search ways
+
+pub returns-then-mark : goal.returns-then-mark
+returns-then-mark c = search ways
+
+pub loop-left-preserved : goal.loop-left-preserved
+loop-left-preserved c =
+    (back_next _ _ _ _ _ _ _ c.loop-left.invariant.0 (search) (search) c.kind_at.ensures c.is_filemark-mark.ensures c.if-mark.false, omega arith)
+
+pub returns : goal.returns
+returns c = search ways

@@ -1,0 +1,13 @@
+use native.Mathlib.Omega.{arith}
+use Rattle.transfer.proofs.SpaceLaws.{ways, marks_on_next}
+use Rattle.transfer.proofs.spacing.marks_on.Goals as goal
+
+pub returns-then-at-end : goal.returns-then-at-end
+returns-then-at-end c = search ways
+
+pub loop-left-preserved : goal.loop-left-preserved
+loop-left-preserved c =
+    (marks_on_next _ _ _ _ _ _ _ _ c.loop-left.invariant.0 (search) (search) c.kind_at.ensures c.marks_left-left.ensures, omega arith)
+
+pub returns : goal.returns
+returns c = search ways
