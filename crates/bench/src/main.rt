@@ -65,7 +65,7 @@ fn send_chunk(rt: &impl Print, input: &mut impl Read, drive: Drive) -> io::Resul
     })
 }
 
-// A proved loop has to end, and nothing says that the input does: the chunks are counted down from a number that no run uses up.
+// A proved loop has to end, and nothing says that the input does: the chunks are counted up to a number that no run reaches.
 fn send_input(rt: &impl Print, input: &mut impl Read, drive: Drive) -> io::Result<()> {
     let mut now = drive;
     for _ in 0..u64::MAX {
