@@ -1,6 +1,6 @@
 # Skepcottage drive card. `make demo` shows the card at work; `make test` is the gate.
 
-.PHONY: demo test bench fuzz peer host-tools clean
+.PHONY: demo test bench fuzz peer archive host-tools clean
 
 SHELL := /bin/bash
 HOST_ENV := . scripts/host-env.sh
@@ -31,9 +31,11 @@ peer: host-tools target/staticlib/libtapecard.a
 host-tools:
 	@scripts/host-tools.sh
 
-target/staticlib/libtapecard.a: crates.txt $(shell find crates -path '*/must-fail' -prune -o -type f -print)
-	rt check tapecard # two crates at a time; staticlib alone proves them one by one
-	rt staticlib tapecard
+# the proved archive that C and Rust hosts link
+archive: target/staticlib/libtapecard.a
+
+target/staticlib/libtapecard.a: crates.txt $(shell find crates \( -path '*/must-fail' -o -path '*/out' \) -prune -o -type f -print)
+	scripts/archive.sh
 
 clean:
-	rm -rf target host/target
+	rm -rf target host/target crates/*/out

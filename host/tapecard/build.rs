@@ -1,4 +1,4 @@
-//! Links the archive `libtapecard.a` that `rt staticlib tapecard` leaves in the project's `target/staticlib`.
+//! Links the archive `libtapecard.a` that `make archive` leaves in the project's `target/staticlib`.
 
 use std::env;
 use std::path::PathBuf;
@@ -12,7 +12,7 @@ fn main() {
     println!("cargo::rerun-if-changed={}", archive.display());
     if !archive.is_file() {
         println!(
-            "cargo::error={} is not there: run `rt staticlib tapecard` in the project's root, \
+            "cargo::error={} is not there: run `make archive` in the project's root, \
              or name the archive's directory in {DIRECTORY_VARIABLE}",
             archive.display()
         );

@@ -4,8 +4,11 @@
 ghost use Rattle.std.specs.Prelude.{◌≡◌};
 ghost use Rattle.bench.specs.Bytes.{byte_call};
 
-use libc::{STDIN_FILENO, STDOUT_FILENO};
 use pulse::{Drive, Step};
+use std::io;
+use std::io::Read;
+
+const CHUNK: usize = 4096;
 
 // A chunk that was read and sent: whether there may be more, and the drive after it.
 #[derive(Drop)]
@@ -14,13 +17,12 @@ struct Chunk {
     drive: Drive,
 }
 
-fn write_line(train: u8, level: bool) {
-    io::print_decimal(STDOUT_FILENO, train as u64);
+fn write_line(rt: &impl Print, train: u8, level: bool) -> io::Result<()> {
+    rt.print(train)?;
     if level {
-        io::write_all(STDOUT_FILENO, b" 1\n");
-        return;
+        return rt.println(" 1");
     }
-    io::write_all(STDOUT_FILENO, b" 0\n");
+    rt.println(" 0")
 }
 
 fn take_byte(drive: Drive, byte: u8) -> Step
@@ -34,56 +36,49 @@ fn take_byte(drive: Drive, byte: u8) -> Step
     drive.train(n)
 }
 
-fn send(drive: Drive, byte: u8) -> Drive {
+fn send(rt: &impl Print, drive: Drive, byte: u8) -> io::Result<Drive> {
     let step = take_byte(drive, byte);
     if byte != 0 {
-        write_line(byte, step.level);
+        write_line(rt, byte, step.level)?;
     }
-    step.drive
+    Ok(step.drive)
 }
 
-fn send_all(drive: Drive, bytes: &[u8]) -> Drive {
+fn send_all(rt: &impl Print, drive: Drive, bytes: &[u8]) -> io::Result<Drive> {
     let mut now = drive;
-    let mut i: usize = 0;
-    while i < bytes.len() {
-        now = send(now, bytes[i]);
-        i += 1;
+    for byte in bytes {
+        now = send(rt, now, *byte)?;
     }
-    now
+    Ok(now)
 }
 
-fn send_chunk(drive: Drive) -> Chunk {
-    let mut bytes = io::buffer();
-    let got = libc::read(STDIN_FILENO, &mut bytes);
-    if got <= 0 {
-        return Chunk {
-            more: false,
-            drive: drive,
-        };
+fn send_chunk(rt: &impl Print, input: &mut impl Read, drive: Drive) -> io::Result<Chunk> {
+    let mut bytes = [0u8; CHUNK];
+    let n = input.read(&mut bytes)?;
+    if n == 0 {
+        return Ok(Chunk { more: false, drive });
     }
-    let n = io::count(got, &bytes);
-    let next = send_all(drive, &bytes[..n]);
-    Chunk {
+    let next = send_all(rt, drive, &bytes[..n])?;
+    Ok(Chunk {
         more: true,
         drive: next,
-    }
+    })
 }
 
-// A proved loop has to end, and nothing says that the input does: the chunks are counted down from a number that no run uses up.
-fn send_input(drive: Drive) {
+// A proved loop has to end, and nothing says that the input does: the chunks are counted up to a number that no run reaches.
+fn send_input(rt: &impl Print, input: &mut impl Read, drive: Drive) -> io::Result<()> {
     let mut now = drive;
-    let mut chunks = u64::MAX;
-    while chunks > 0 {
-        let chunk = send_chunk(now);
+    for _ in 0..u64::MAX {
+        let chunk = send_chunk(rt, input, now)?;
         if !chunk.more {
-            return;
+            break;
         }
         now = chunk.drive;
-        chunks -= 1;
     }
+    Ok(())
 }
 
-fn main() {
-    io::write_all(STDOUT_FILENO, b"train bit\n");
-    send_input(Drive::power_on(0, 0));
+fn main(rt: HostRuntime) -> io::Result<()> {
+    rt.println("train bit")?;
+    send_input(&rt, &mut rt.stdin(), Drive::power_on(0, 0))
 }

@@ -7,22 +7,26 @@ mod parts; // parts.rt: the parts of a record
 mod script; // script.rt: a line of the script, taken apart
 
 use calls::Drive;
-use libc::STDIN_FILENO;
 use lines::line::line_end;
+use std::io;
+use std::io::Read;
+
+const MOST: u64 = 65536;
 
 // The lines one after the other; the drive goes through them.
-fn run(script: &[u8], first: Drive) {
+fn run(rt: &impl Print, script: &[u8], first: Drive) -> io::Result<()> {
     let mut drive = first;
     let mut from: usize = 0;
     while from < script.len() {
         let to = line_end(script, from);
-        drive = script::obey(drive, &script[from..to]);
+        drive = script::obey(rt, drive, &script[from..to])?;
         from = to + 1;
     }
+    Ok(())
 }
 
-fn main() {
-    let mut text = io::large_buffer();
-    let n = io::read_full(STDIN_FILENO, &mut text);
-    run(&text[..n], calls::fresh(0, 0));
+fn main(rt: HostRuntime) -> io::Result<()> {
+    let mut script = Vec::new(rt.alloc());
+    rt.stdin().take(MOST).read_to_end(&mut script)?;
+    run(&rt, &script, calls::fresh(0, 0))
 }

@@ -15,6 +15,7 @@ use lines::line::{
     Bytes, bytes_of, first_eight, is_whole, letter_of, place_of, store, stores_within,
 };
 use lines::show;
+use std::io;
 
 const RECORD: u16 = 32;
 
@@ -31,60 +32,60 @@ fn has_its_bytes(letter: u8, count: usize) -> bool {
     }
 }
 
-fn inserted(drive: Drive, bytes: Bytes) -> Drive {
-    calls::insert(drive, first_eight(bytes))
+fn inserted(rt: &impl Print, drive: Drive, bytes: Bytes) -> io::Result<Drive> {
+    calls::insert(rt, drive, first_eight(bytes))
 }
 
-fn trained(drive: Drive, bytes: Bytes) -> Drive {
+fn trained(rt: &impl Print, drive: Drive, bytes: Bytes) -> io::Result<Drive> {
     let v = bytes.values;
-    calls::train(drive, place_of(bytes), v[2])
+    calls::train(rt, drive, place_of(bytes), v[2])
 }
 
-fn powered(bytes: Bytes) -> Drive {
+fn powered(rt: &impl Print, bytes: Bytes) -> io::Result<Drive> {
     let v = bytes.values;
-    calls::power_on(place_of(bytes), v[2])
+    calls::power_on(rt, place_of(bytes), v[2])
 }
 
-fn waited(drive: Drive, bytes: Bytes) -> Drive {
-    calls::wait(drive, place_of(bytes) as u32)
+fn waited(rt: &impl Print, drive: Drive, bytes: Bytes) -> io::Result<Drive> {
+    calls::wait(rt, drive, place_of(bytes) as u32)
 }
 
 // The bytes stand for a place (two) and what the record gets from there on, all within its 32.
-fn stored(drive: Drive, bytes: Bytes) -> Drive {
+fn stored(rt: &impl Print, drive: Drive, bytes: Bytes) -> io::Result<Drive> {
     if !stores_within(bytes, RECORD) {
-        show::text(b"beyond the record");
-        return drive;
+        show::text(rt, b"beyond the record")?;
+        return Ok(drive);
     }
     let mut state = drive.state;
     store(&mut state, bytes);
-    parts::show_bytes(Drive { state: state })
+    parts::show_bytes(rt, Drive { state })
 }
 
-fn called(drive: Drive, letter: u8, bytes: Bytes) -> Drive {
+fn called(rt: &impl Print, drive: Drive, letter: u8, bytes: Bytes) -> io::Result<Drive> {
     match letter {
-        b'o' => powered(bytes),
-        b't' => trained(drive, bytes),
-        b'k' => calls::tick(drive),
-        b'i' => inserted(drive, bytes),
-        b'r' => calls::remove(drive),
-        b'w' => waited(drive, bytes),
-        b's' => stored(drive, bytes),
-        b'p' => parts::show_parts(drive),
-        _ => parts::show_bytes(drive),
+        b'o' => powered(rt, bytes),
+        b't' => trained(rt, drive, bytes),
+        b'k' => calls::tick(rt, drive),
+        b'i' => inserted(rt, drive, bytes),
+        b'r' => calls::remove(rt, drive),
+        b'w' => waited(rt, drive, bytes),
+        b's' => stored(rt, drive, bytes),
+        b'p' => parts::show_parts(rt, drive),
+        _ => parts::show_bytes(rt, drive),
     }
 }
 
-pub fn obey(drive: Drive, line: &[u8]) -> Drive {
-    if show::said(line) {
-        return drive;
+pub fn obey(rt: &impl Print, drive: Drive, line: &[u8]) -> io::Result<Drive> {
+    if show::said(rt, line)? {
+        return Ok(drive);
     }
     let letter = letter_of(line);
     let bytes = bytes_of(line);
     if is_whole(line.len(), bytes.count) & has_its_bytes(letter, bytes.count) {
-        let next = called(drive, letter, bytes);
-        show::text(b"\n");
-        return next;
+        let next = called(rt, drive, letter, bytes)?;
+        show::text(rt, b"\n")?;
+        return Ok(next);
     }
-    show::no_line(line);
-    drive
+    show::no_line(rt, line)?;
+    Ok(drive)
 }

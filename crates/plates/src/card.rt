@@ -2,6 +2,7 @@
 use lines::show;
 use numbers::counts::count4;
 use numbers::sizes::least;
+use std::io;
 use tapecard::packet_calls::{tapecard_change, tapecard_fresh, tapecard_packet};
 
 pub const IMAGE_LENGTH: usize = 2084;
@@ -9,7 +10,7 @@ pub const IMAGE_LENGTH: usize = 2084;
 pub const BUFFER_LENGTH: usize = 2048;
 
 // The record's bytes, the image and the data buffer, and how much of the last two is lent.
-#[derive(Drop)]
+#[derive(Clone, Copy)]
 pub struct Card {
     pub state: [u8; 16],
     pub image: [u8; 2084],
@@ -71,7 +72,7 @@ fn lend(
     tapecard_packet(state, &mut image[0..i], packet, &mut buf[0..b], answer);
 }
 
-fn show_sense(state: [u8; 16], image: [u8; 2084], lent: usize) {
+fn show_sense(rt: &impl Print, state: [u8; 16], image: [u8; 2084], lent: usize) -> io::Result<()> {
     let mut copy = state;
     let mut same = image;
     let ask = [3u8, 0, 0, 0, 20, 0, 0, 0, 0, 0, 0, 0];
@@ -86,22 +87,27 @@ fn show_sense(state: [u8; 16], image: [u8; 2084], lent: usize) {
         20,
         &mut answer,
     );
-    show::text(b" sense");
-    show::bytes(&sense);
+    show::text(rt, b" sense")?;
+    show::bytes(rt, &sense)
 }
 
-fn show_answer(answer: [u8; 16], state: [u8; 16], image: &[u8; 2084]) {
-    show::small(b" number ", answer[0]);
-    show::small(b" status ", answer[1]);
-    show::number(b" blocks ", count4(&answer, 4));
-    show::number(b" bytes ", count4(&answer, 8));
-    show::number(b" marked ", count4(&answer, 12));
-    show::number(b" P ", count4(&state, 0));
-    show::number(b" U ", count4(image, 8));
+fn show_answer(
+    rt: &impl Print,
+    answer: [u8; 16],
+    state: [u8; 16],
+    image: &[u8; 2084],
+) -> io::Result<()> {
+    show::small(rt, b" number ", answer[0])?;
+    show::small(rt, b" status ", answer[1])?;
+    show::number(rt, b" blocks ", count4(&answer, 4))?;
+    show::number(rt, b" bytes ", count4(&answer, 8))?;
+    show::number(rt, b" marked ", count4(&answer, 12))?;
+    show::number(rt, b" P ", count4(&state, 0))?;
+    show::number(rt, b" U ", count4(image, 8))
 }
 
 // One packet: what it is answered, and P, U and the sense after it, or whether a refused one left everything as it was.
-pub fn send(card: Card, bytes: &[u8], count: usize) -> Card {
+pub fn send(rt: &impl Print, card: Card, bytes: &[u8], count: usize) -> io::Result<Card> {
     let n = least(count, bytes.len());
     let mut state = card.state;
     let mut image = card.image;
@@ -116,24 +122,32 @@ pub fn send(card: Card, bytes: &[u8], count: usize) -> Card {
         card.room,
         &mut answer,
     );
-    show_answer(answer, state, &image);
+    show_answer(rt, answer, state, &image)?;
     if answer[0] != 0 {
-        show_kept(card, state, image, buf);
+        show_kept(rt, card, state, image, buf)?;
     } else {
-        show_sense(state, image, card.lent);
+        show_sense(rt, state, image, card.lent)?;
     }
-    show::text(b"\n");
+    show::text(rt, b"\n")?;
     let mut next = card;
     next.state = state;
     next.image = image;
     next.buf = buf;
-    next
+    Ok(next)
 }
 
-fn show_kept(before: Card, state: [u8; 16], image: [u8; 2084], buf: [u8; 2048]) {
-    let s = before.state;
-    let i = before.image;
-    let b = before.buf;
-    let same = check::same(&s, &state) & check::same(&i, &image) & check::same(&b, &buf);
-    show::either(same, b" record, image and buffer unchanged", b" CHANGED");
+fn show_kept(
+    rt: &impl Print,
+    before: Card,
+    state: [u8; 16],
+    image: [u8; 2084],
+    buf: [u8; 2048],
+) -> io::Result<()> {
+    let same = (before.state == state) & (before.image == image) & (before.buf == buf);
+    show::either(
+        rt,
+        same,
+        b" record, image and buffer unchanged",
+        b" CHANGED",
+    )
 }

@@ -7,22 +7,26 @@ mod card; // card.rt: what is lent to the drive, and one packet sent
 mod script; // script.rt: a line of the script, taken apart
 
 use card::Card;
-use libc::STDIN_FILENO;
 use lines::line::line_end;
+use std::io;
+use std::io::Read;
+
+const MOST: u64 = 65536;
 
 // The lines one after the other; the card goes through them.
-fn run(script: &[u8], first: Card) {
+fn run(rt: &impl Print, script: &[u8], first: Card) -> io::Result<()> {
     let mut card = first;
     let mut from: usize = 0;
     while from < script.len() {
         let to = line_end(script, from);
-        card = script::obey(card, &script[from..to]);
+        card = script::obey(rt, card, &script[from..to])?;
         from = to + 1;
     }
+    Ok(())
 }
 
-fn main() {
-    let mut text = io::large_buffer();
-    let n = io::read_full(STDIN_FILENO, &mut text);
-    run(&text[..n], card::plate());
+fn main(rt: HostRuntime) -> io::Result<()> {
+    let mut script = Vec::new(rt.alloc());
+    rt.stdin().take(MOST).read_to_end(&mut script)?;
+    run(&rt, &script, card::plate())
 }

@@ -9,6 +9,7 @@ use crate::card;
 use crate::card::Card;
 use lines::line::{Bytes, bytes_of, letter_of, place_of, store};
 use lines::show;
+use std::io;
 
 fn store_in_image(card: Card, bytes: Bytes) -> Card {
     let mut next = card;
@@ -48,48 +49,48 @@ fn with_image(card: Card, bytes: Bytes) -> Card {
     next
 }
 
-fn sent(card: Card, bytes: Bytes) -> Card {
+fn sent(rt: &impl Print, card: Card, bytes: Bytes) -> io::Result<Card> {
     let values = bytes.values;
-    card::send(card, &values, bytes.count)
+    card::send(rt, card, &values, bytes.count)
 }
 
-fn shown_buffer(card: Card, bytes: Bytes) -> Card {
+fn shown_buffer(rt: &impl Print, card: Card, bytes: Bytes) -> io::Result<Card> {
     let buf = card.buf;
-    show::part(&buf, bytes);
-    card
+    show::part(rt, &buf, bytes)?;
+    Ok(card)
 }
 
-fn shown_image(card: Card, bytes: Bytes) -> Card {
+fn shown_image(rt: &impl Print, card: Card, bytes: Bytes) -> io::Result<Card> {
     let image = card.image;
-    show::part(&image, bytes);
-    card
+    show::part(rt, &image, bytes)?;
+    Ok(card)
 }
 
-fn shown_record(card: Card, bytes: Bytes) -> Card {
+fn shown_record(rt: &impl Print, card: Card, bytes: Bytes) -> io::Result<Card> {
     let state = card.state;
-    show::part(&state, bytes);
-    card
+    show::part(rt, &state, bytes)?;
+    Ok(card)
 }
 
-pub fn obey(card: Card, line: &[u8]) -> Card {
-    if show::said(line) {
-        return card;
+pub fn obey(rt: &impl Print, card: Card, line: &[u8]) -> io::Result<Card> {
+    if show::said(rt, line)? {
+        return Ok(card);
     }
     let letter = letter_of(line);
     let bytes = bytes_of(line);
     match letter {
-        b'n' => card::plate(),
-        b'f' => card::renew(card, false),
-        b'c' => card::renew(card, true),
-        b'p' => sent(card, bytes),
-        b'i' => store_in_image(card, bytes),
-        b'r' => store_in_record(card, bytes),
-        b'd' => store_in_buffer(card, bytes),
-        b'l' => with_room(card, bytes),
-        b'm' => with_image(card, bytes),
-        b'x' => shown_buffer(card, bytes),
-        b'y' => shown_image(card, bytes),
-        b'w' => shown_record(card, bytes),
-        _ => card,
+        b'n' => Ok(card::plate()),
+        b'f' => Ok(card::renew(card, false)),
+        b'c' => Ok(card::renew(card, true)),
+        b'p' => sent(rt, card, bytes),
+        b'i' => Ok(store_in_image(card, bytes)),
+        b'r' => Ok(store_in_record(card, bytes)),
+        b'd' => Ok(store_in_buffer(card, bytes)),
+        b'l' => Ok(with_room(card, bytes)),
+        b'm' => Ok(with_image(card, bytes)),
+        b'x' => shown_buffer(rt, card, bytes),
+        b'y' => shown_image(rt, card, bytes),
+        b'w' => shown_record(rt, card, bytes),
+        _ => Ok(card),
     }
 }

@@ -7,21 +7,14 @@ use exchange::exporting::export;
 use exchange::importing::import;
 use packet_record::{decode_state, encode_answer};
 
-#[unsafe(no_mangle)]
-pub extern "C" fn tapecard_export(image: &[u8], file: &mut [u8], answer: &mut [u8; 16])
+pub fn tapecard_export(image: &[u8], file: &mut [u8], answer: &mut [u8; 16])
     ensures { ExportCallPromise image.now file.old (export_told file.new answer.new) }
 {
     let told = export(image, file);
     *answer = encode_answer(told);
 }
 
-#[unsafe(no_mangle)]
-pub extern "C" fn tapecard_import(
-    state: &mut [u8; 16],
-    image: &mut [u8],
-    file: &[u8],
-    answer: &mut [u8; 16],
-)
+pub fn tapecard_import(state: &mut [u8; 16], image: &mut [u8], file: &[u8], answer: &mut [u8; 16])
     ensures { ImportCallPromise state.old image.old file.now
         (packet_card state.new image.new file.now answer.new) }
 {

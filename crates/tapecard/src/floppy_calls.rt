@@ -19,24 +19,21 @@ fn leave(state: &mut [u8; 32], answer: &mut [u8; 16], outcome: FloppyOutcome)
     }
 }
 
-#[unsafe(no_mangle)]
-pub extern "C" fn tapecard_floppy_fresh(state: &mut [u8; 32], image: &[u8], answer: &mut [u8; 16])
+pub fn tapecard_floppy_fresh(state: &mut [u8; 32], image: &[u8], answer: &mut [u8; 16])
     ensures { FloppyFreshPromise state.old image.now (floppy_told state.new answer.new) }
 {
     let before = decode_floppy(state);
     leave(state, answer, floppy::fresh(image, before));
 }
 
-#[unsafe(no_mangle)]
-pub extern "C" fn tapecard_floppy_change(state: &mut [u8; 32], image: &[u8], answer: &mut [u8; 16])
+pub fn tapecard_floppy_change(state: &mut [u8; 32], image: &[u8], answer: &mut [u8; 16])
     ensures { FloppyChangePromise state.old image.now (floppy_told state.new answer.new) }
 {
     let before = decode_floppy(state);
     leave(state, answer, floppy::changed(image, before));
 }
 
-#[unsafe(no_mangle)]
-pub extern "C" fn tapecard_floppy_packet(
+pub fn tapecard_floppy_packet(
     state: &mut [u8; 32],
     image: &mut [u8],
     packet: &[u8],

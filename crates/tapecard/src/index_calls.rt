@@ -5,16 +5,14 @@ ghost use Rattle.tapecard.specs.IndexCalls.{index_told, index_card, IndexMakePro
 use crate::packet_calls::leave;
 use packet_record::{decode_state, encode_answer};
 
-#[unsafe(no_mangle)]
-pub extern "C" fn tapecard_index_make(image: &[u8], index: &mut [u8], answer: &mut [u8; 16])
+pub fn tapecard_index_make(image: &[u8], index: &mut [u8], answer: &mut [u8; 16])
     ensures { IndexMakePromise image.now index.old (index_told index.new answer.new) }
 {
     let told = index::make(image, index);
     *answer = encode_answer(told);
 }
 
-#[unsafe(no_mangle)]
-pub extern "C" fn tapecard_index_packet(
+pub fn tapecard_index_packet(
     state: &mut [u8; 16],
     image: &mut [u8],
     index: &mut [u8],

@@ -16,23 +16,20 @@ pub fn leave(state: &mut [u8; 16], answer: &mut [u8; 16], outcome: Outcome)
     }
 }
 
-#[unsafe(no_mangle)]
-pub extern "C" fn tapecard_fresh(state: &mut [u8; 16])
+pub fn tapecard_fresh(state: &mut [u8; 16])
     ensures { PacketFreshPromise state.new }
 {
     *state = encode_state(stream::fresh());
 }
 
-#[unsafe(no_mangle)]
-pub extern "C" fn tapecard_change(state: &mut [u8; 16])
+pub fn tapecard_change(state: &mut [u8; 16])
     ensures { PacketChangePromise state.old state.new }
 {
     let before = decode_state(state);
     *state = encode_state(stream::changed(before));
 }
 
-#[unsafe(no_mangle)]
-pub extern "C" fn tapecard_packet(
+pub fn tapecard_packet(
     state: &mut [u8; 16],
     image: &mut [u8],
     packet: &[u8],

@@ -26,15 +26,13 @@ fn leave(
     }
 }
 
-#[unsafe(no_mangle)]
-pub extern "C" fn tapecard_pulse_power_on(state: &mut [u8; 32], vendor: u16, rom: u8)
+pub fn tapecard_pulse_power_on(state: &mut [u8; 32], vendor: u16, rom: u8)
     ensures { PulsePowerOnPromise vendor rom state.new }
 {
     *state = encode_drive(Drive::power_on(vendor, rom));
 }
 
-#[unsafe(no_mangle)]
-pub extern "C" fn tapecard_pulse_train(state: &mut [u8; 32], pulses: u16, answer: &mut [u8; 8])
+pub fn tapecard_pulse_train(state: &mut [u8; 32], pulses: u16, answer: &mut [u8; 8])
     ensures { PulseTrainPromise state.old pulses (pulse_card state.new answer.new) }
 {
     let step = decode_drive(state).train(pulses);
@@ -42,8 +40,7 @@ pub extern "C" fn tapecard_pulse_train(state: &mut [u8; 32], pulses: u16, answer
     leave(state, answer, step.number, step.level, NO_TICKS, after);
 }
 
-#[unsafe(no_mangle)]
-pub extern "C" fn tapecard_pulse_trains(
+pub fn tapecard_pulse_trains(
     state: &mut [u8; 32],
     counts: &[u16],
     levels: &mut [u8],
@@ -57,8 +54,7 @@ pub extern "C" fn tapecard_pulse_trains(
     leave(state, answer, sent.number, sent.level, NO_TICKS, after);
 }
 
-#[unsafe(no_mangle)]
-pub extern "C" fn tapecard_pulse_tick(state: &mut [u8; 32], answer: &mut [u8; 8])
+pub fn tapecard_pulse_tick(state: &mut [u8; 32], answer: &mut [u8; 8])
     ensures { PulseTickPromise state.old (pulse_card state.new answer.new) }
 {
     let step = decode_drive(state).tick();
@@ -66,12 +62,7 @@ pub extern "C" fn tapecard_pulse_tick(state: &mut [u8; 32], answer: &mut [u8; 8]
     leave(state, answer, step.number, step.level, NO_TICKS, after);
 }
 
-#[unsafe(no_mangle)]
-pub extern "C" fn tapecard_pulse_insert(
-    state: &mut [u8; 32],
-    cartridge: &[u8; 8],
-    answer: &mut [u8; 8],
-)
+pub fn tapecard_pulse_insert(state: &mut [u8; 32], cartridge: &[u8; 8], answer: &mut [u8; 8])
     ensures { PulseInsertPromise state.old cartridge.now (pulse_card state.new answer.new) }
 {
     let described = described_cartridge(cartridge);
@@ -81,8 +72,7 @@ pub extern "C" fn tapecard_pulse_insert(
     leave(state, answer, step.number, step.level, NO_TICKS, after);
 }
 
-#[unsafe(no_mangle)]
-pub extern "C" fn tapecard_pulse_remove(state: &mut [u8; 32], answer: &mut [u8; 8])
+pub fn tapecard_pulse_remove(state: &mut [u8; 32], answer: &mut [u8; 8])
     ensures { PulseRemovePromise state.old (pulse_card state.new answer.new) }
 {
     let step = decode_drive(state).remove();
@@ -90,8 +80,7 @@ pub extern "C" fn tapecard_pulse_remove(state: &mut [u8; 32], answer: &mut [u8; 
     leave(state, answer, step.number, step.level, NO_TICKS, after);
 }
 
-#[unsafe(no_mangle)]
-pub extern "C" fn tapecard_pulse_wait(state: &mut [u8; 32], limit: u32, answer: &mut [u8; 8])
+pub fn tapecard_pulse_wait(state: &mut [u8; 32], limit: u32, answer: &mut [u8; 8])
     ensures { PulseWaitPromise state.old limit (pulse_card state.new answer.new) }
 {
     let waited = decode_drive(state).wait(limit);
