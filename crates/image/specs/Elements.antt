@@ -57,13 +57,13 @@ kind_at s kinds i = kind_of (get_or s (kinds + i) 0)
 unfoldable pub block_at : List ℕ → ℕ → ℕ → ℕ → List ℕ
 block_at s size blocks i = part s (blocks + i * size) size
 
--- bytes stored as those of element i, with this kind. The header is not touched
+-- bytes stored as those of element i, with this kind
 abbrev pub lay_as : ℕ → List ℕ → ℕ → ℕ → ℕ → ℕ → List ℕ → List ℕ
 lay_as kind s size kinds blocks i bytes = set (over s (blocks + i * size) bytes) (kinds + i) kind
 
--- 01, WRITE: "bytes and kind 1 stored"; 02, A6: "WRITE still stores kind 1.": over a marked block too
+-- 01, WRITE: "bytes and kind 1 stored"; 02, A6: "WRITE still stores kind 1.": over a marked block too. The header is not touched
 unfoldable pub lay_block : List ℕ → ℕ → ℕ → ℕ → ℕ → List ℕ → List ℕ
-lay_block s size kinds blocks i bytes = lay_as data_kind s size kinds blocks i bytes
+lay_block s size kinds blocks i bytes = set (over s (blocks + i * size) bytes) (kinds + i) data_kind
 
 -- 02, A7: "stores an unreadable block as kind 0"
 unfoldable pub lay_unreadable : List ℕ → ℕ → ℕ → ℕ → ℕ → List ℕ → List ℕ
@@ -83,4 +83,4 @@ set_recorded s u = put_count s recorded_field 4 u
 
 -- 01, WRITE: "U = new P": where a run from place p on stored something, U is its new place
 unfoldable pub record_to : List ℕ → ℕ → ℕ → List ℕ
-record_to s p place = if p <ᵇ place then set_recorded s place else s
+record_to s p place = if p <ᵇ place then put_count s recorded_field 4 place else s

@@ -178,6 +178,6 @@ pub fn record_to(image: &mut [u8], p: u32, place: u32)
 {
     let stored = p < place;
     if stored {
-        set_recorded(image, place);
+        put_count4(image, RECORDED_FIELD, place);
     }
 }
