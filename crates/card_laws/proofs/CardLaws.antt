@@ -31,6 +31,7 @@ use Rattle.tapecard.specs.PulseCalls.{pulse_left, pulse_train, pulse_tick, pulse
 use Rattle.card_laws.specs.Promises.{Refused, PacketRefusedUntouched, IndexRefusedUntouched, FloppyRefusedUntouched, UntouchedIfRefused}
 use Rattle.card_laws.specs.Promises.{TrainRefusedUntouched, TickRefusedUntouched, InsertRefusedUntouched, RemoveRefusedUntouched}
 use Rattle.card_laws.specs.Promises.{WaitRefusedUntouched, CountsWhole, Settled}
+use Rattle.card_laws.specs.Exchanges.{ExchangeSettled}
 use Rattle.card_laws.proofs.PacketFollowing.{blocks_whole, bytes_whole, marked_whole}
 use Rattle.card_laws.proofs.IndexFollowing.{indexed_by, made_by, make_counts, index_counts}
 use Rattle.card_laws.proofs.FloppyFollowing.{floppy_blocks_whole, floppy_bytes_whole, floppy_marked_whole}
@@ -145,8 +146,6 @@ settled =
       packet = packet_settled;
       index_make = index_make_settled;
       index_packet = index_packet_settled;
-      exported = export_settled;
-      imported = import_settled;
       floppy_fresh = floppy_fresh_settled;
       floppy_change = floppy_change_settled;
       floppy_packet = floppy_packet_settled;
@@ -158,3 +157,6 @@ settled =
       wait = wait_settled;
       trains = trains_settled;
     }
+
+pub exchange_settled : ExchangeSettled
+exchange_settled = record { exported = export_settled; imported = import_settled }

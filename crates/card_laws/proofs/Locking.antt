@@ -24,6 +24,7 @@ use Rattle.tapecard.specs.PacketCalls.{packet_change, packet_left, packet_call}
 use Rattle.stream_laws.proofs.Locking.{locked_stays}
 use Rattle.floppy_laws.proofs.Locking.{changed_by, lock_starts, locked_stays as floppy-stays}
 use Rattle.card_laws.specs.Promises.{Bytes, LockedIn, Allows, CardLockedStays}
+use Rattle.card_laws.specs.Exchanges.{ExchangeLockedStays}
 use Rattle.card_laws.proofs.PacketFollowing.{packet_follows}
 use Rattle.card_laws.proofs.IndexFollowing.{left_by}
 use Rattle.card_laws.proofs.Exchanges.{import_by}
@@ -71,7 +72,6 @@ card_locked_stays =
       packet = packet_locked;
       index_packet = index_locked;
       change = change_locked;
-      imported = λ state image file b h. import_by state image file LockedIn (change_locked state b h) h;
       floppy_packet = λ state image packet buf a b c n h.
           let f = decode_floppy state in
           spelled (floppy_packet_call state image packet buf).state _
@@ -82,3 +82,6 @@ card_locked_stays =
           spelled (floppy_change_call state image).state _ (ap (λ (x : Floppy). x.shared) (floppy_follows.change state image b))
           (changed_by (λ x. x.loaded ≡ true) image f h.0 refl) (lock_starts.changed image f ∙ h.1);
     }
+
+pub exchange_locked_stays : ExchangeLockedStays
+exchange_locked_stays state image file b h = import_by state image file LockedIn (change_locked state b h) h

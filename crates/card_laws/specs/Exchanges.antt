@@ -1,13 +1,14 @@
 -- What an export and an import (02, A7) promise on the bytes themselves; proofs/ keeps each, under its name.
 -- Assumes nothing.
 use Rattle.std.specs.Prelude.{◌≡◌, true, List, ℕ, ◌≤◌, get_or}
+use Rattle.numbers.specs.Outcomes.{Settles}
 use Rattle.image.specs.Header.{fields_of, keeps_header_rules}
 use Rattle.packet_record.specs.PacketRecord.{decode_state}
 use Rattle.exchange.specs.Exporting.{elements_of, exports}
 use Rattle.exchange.specs.Importing.{imports}
-use Rattle.tapecard.specs.ExchangeCalls.{export_call, import_call}
+use Rattle.tapecard.specs.ExchangeCalls.{export_call, import_call, ExportCallPromise, ImportCallPromise}
 use Rattle.tapecard.specs.PacketCalls.{packet_card, packet_change}
-use Rattle.card_laws.specs.Promises.{Bytes, CountsIn, Refused}
+use Rattle.card_laws.specs.Promises.{Bytes, CountsIn, LockedIn, Refused}
 
 -- the number, byte 0 of the answer, is 0
 abbrev pub Accepted : List ℕ → Type 0
@@ -43,3 +44,12 @@ pub record ExchangeStaysBytes : Type 0 where
 pub record ExchangeCountsWhole : Type 0 where
   pub exported : (image file : List ℕ) → CountsIn (export_call image file).answer (exports image file).answer
   pub imported : (state image file : List ℕ) → CountsIn (import_call state image file).answer (imports image (decode_state state) file).answer
+
+-- a lock that the record holds is held after an import too
+abbrev pub ExchangeLockedStays : Type 0
+ExchangeLockedStays = (state image file : List ℕ) → Bytes state → LockedIn state → LockedIn (import_call state image file).state
+
+-- "Prove that any two outcomes allowed by it coincide"
+pub record ExchangeSettled : Type 0 where
+  pub exported : (image file : List ℕ) → Settles (ExportCallPromise image file)
+  pub imported : (state image file : List ℕ) → Settles (ImportCallPromise state image file)

@@ -28,7 +28,6 @@ use Rattle.tapecard.specs.PacketCalls.{packet_card, packet_fresh, packet_change,
 use Rattle.tapecard.specs.PacketCalls.{PacketFreshPromise, PacketChangePromise, PacketCallPromise}
 use Rattle.index.specs.Keeping.{makes, indexed_step, short_index, stale_index}
 use Rattle.tapecard.specs.IndexCalls.{index_card, index_make_call, index_packet_call, IndexMakePromise, IndexCallPromise}
-use Rattle.tapecard.specs.ExchangeCalls.{import_call, ExportCallPromise, ImportCallPromise}
 use Rattle.tapecard.specs.FloppyCalls.{floppy_card, floppy_fresh_call, floppy_change_call, floppy_packet_call}
 use Rattle.tapecard.specs.FloppyCalls.{FloppyFreshPromise, FloppyChangePromise, FloppyCallPromise}
 use Rattle.pulse_record.specs.PulseRecord.{decode_drive, encode_drive, described_cartridge, described_place}
@@ -255,7 +254,6 @@ pub record CardLockedStays : Type 0 where
   pub index_packet : (state image index packet buf : List ℕ) → Bytes packet → (Allows packet → ⊥)
       → LockedIn state → LockedIn (index_packet_call state image index packet buf).card.state
   pub change : (state : List ℕ) → Bytes state → LockedIn state → LockedIn (packet_change state)
-  pub imported : (state image file : List ℕ) → Bytes state → LockedIn state → LockedIn (import_call state image file).state
   pub floppy_packet : (state image packet buf : List ℕ) → Bytes state → Bytes packet → Bytes buf → (Allows packet → ⊥)
       → LockedIn state → LockedIn (floppy_packet_call state image packet buf).state
   pub floppy_change : (state image : List ℕ) → Bytes state → LockedIn state → LockedIn (floppy_change_call state image).state
@@ -294,8 +292,6 @@ pub record Settled : Type 0 where
   pub packet : (state image packet buf : List ℕ) → Settles (PacketCallPromise state image packet buf)
   pub index_make : (image index : List ℕ) → Settles (IndexMakePromise image index)
   pub index_packet : (state image index packet buf : List ℕ) → Settles (IndexCallPromise state image index packet buf)
-  pub exported : (image file : List ℕ) → Settles (ExportCallPromise image file)
-  pub imported : (state image file : List ℕ) → Settles (ImportCallPromise state image file)
   pub floppy_fresh : (state image : List ℕ) → Settles (FloppyFreshPromise state image)
   pub floppy_change : (state image : List ℕ) → Settles (FloppyChangePromise state image)
   pub floppy_packet : (state image packet buf : List ℕ) → Settles (FloppyCallPromise state image packet buf)
