@@ -1,13 +1,12 @@
 -- Each number exactly where it is due, and that every outcome is settled.
 -- Assumes nothing.
 use Prim.Native.Nat.{ℕ, zero, suc}
-use mathlib.Core.Bool.{true, false, true≢false}
+use mathlib.Core.Bool.{true≢false}
 use mathlib.Core.List.{List}
 use mathlib.Core.Path.{◌≡◌, refl, sym, ap, ◌∙◌, subst}
 use native.Mathlib.Omega.{arith}
 use borrow.Author.Tests.{eq-eqb, ne_eqb, eqb-true, eqb-false}
 use lib.Dec.{eqb}
-use lib.ListN.{length}
 use Rattle.numbers.proofs.Cases.{test}
 use Rattle.image.specs.Header.{fields_of}
 use Rattle.packet_state.specs.declared.state.State.{State}
@@ -20,7 +19,7 @@ use Rattle.tap.specs.Files.{Element, TapeMark, Reading, Refused, Holds, record_i
 use Rattle.tap.specs.Items.{item_at}
 use Rattle.exchange.specs.Exporting.{Exported}
 use Rattle.exchange_laws.specs.Demands.{RefusedKeeps, NumberExactly, Settled}
-use Rattle.exchange_laws.specs.Words.{TakenTo, a_mark, a_record, DueFrom, cut_here, other_length, no_room, ends_here, goes_on}
+use Rattle.exchange_laws.specs.Words.{TakenTo, a_mark, a_record, DueFrom, cut_here, other_size, no_room, ends_here, goes_on}
 use Rattle.exchange_laws.specs.Words.{DueImport, bad_image, by_items, DueExport, too_short, written}
 use Rattle.exchange_laws.specs.Words.{broken as no-image}
 use Rattle.exchange_laws.proofs.Ways.{ImportWay, broken, refused, taken, import_way, ExportWay, bad, short, well, export_way}
@@ -43,7 +42,7 @@ module _ (size : ℕ) (file : List ℕ) where
   due_full at (Record r) i =
       test (eqb r.length size)
       (λ e. rw e (no_room at r.next (a_record r i (eqb-true r.length size e))))
-      (λ e. rw e (other_length zero at r i (eqb-false r.length size e)))
+      (λ e. rw e (other_size zero at r i (eqb-false r.length size e)))
 
   due_on : (room : ℕ) → ((at : ℕ) → DueFrom size file room at (number_in (reads size file room at))) → (at : ℕ) (x : Item) → item_at file at ≡ x
       → DueFrom size file (suc room) at (number_in (met size file (λ e next. with_first e (reads size file room next)) x))
@@ -56,7 +55,7 @@ module _ (size : ℕ) (file : List ℕ) where
       (λ e.
       rw (e, first_number (record_in file r) (reads size file room r.next))
       (goes_on room at r.next _ (a_record r i (eqb-true r.length size e)) (h r.next)))
-      (λ e. rw e (other_length (suc room) at r i (eqb-false r.length size e)))
+      (λ e. rw e (other_size (suc room) at r i (eqb-false r.length size e)))
 
   due : (room at : ℕ) → DueFrom size file room at (number_in (reads size file room at))
   unfolding reads
@@ -78,8 +77,8 @@ module _ (size : ℕ) (file : List ℕ) where
   unfolding reads met
   given zero at n (cut_here room a i) = rw i refl
   given (suc room) at n (cut_here room' a i) = rw i refl
-  given zero at n (other_length room a r i q) = rw (i, ne_eqb r.length size q) refl
-  given (suc room) at n (other_length room' a r i q) = rw (i, ne_eqb r.length size q) refl
+  given zero at n (other_size room a r i q) = rw (i, ne_eqb r.length size q) refl
+  given (suc room) at n (other_size room' a r i q) = rw (i, ne_eqb r.length size q) refl
   given zero at n (no_room a next t) = taken_full at next t
   given zero at n (ends_here room a used i) = rw i refl
   given (suc room) at n (ends_here room' a used i) = rw i refl

@@ -13,6 +13,6 @@ use Rattle.exchange.specs.Importing.{lay_elements, taken_into, imports_as, impor
 use Rattle.exchange_laws.specs.Demands.{ExchangePlates}
 
 pub exchange_plates : ExchangePlates
-unfolding exports elements_of elements_from file_of bytes_of record_bytes word_bytes imports imports_as taken_into lay_elements reads met item_at record_at word_at
-    keeps_header_rules fields_of all_hold is_in kind_of kind_at block_at lay_block lay_unreadable lay_mark
+unfolding exports elements_of elements_from file_of bytes_of record_bytes word_bytes imports imports_as taken_into lay_elements reads met item_at record_at
+    word_at keeps_header_rules fields_of all_hold is_in kind_of kind_at block_at lay_block lay_unreadable lay_mark
 exchange_plates = (refl, refl)

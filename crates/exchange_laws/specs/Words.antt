@@ -27,7 +27,7 @@ pub data TakenTo (size : ℕ) (file : List ℕ) (at : ℕ) : ℕ → Type 0 wher
 -- from place `at` on, with room for so many elements; 0 where the file ends first
 pub data DueFrom (size : ℕ) (file : List ℕ) : ℕ → ℕ → ℕ → Type 0 where
   cut_here : (room at : ℕ) → item_at file at ≡ Cut → DueFrom size file room at cut_lengths
-  other_length : (room at : ℕ) (r : TapeRecord) → item_at file at ≡ Record r → (r.length ≡ size → ⊥) → DueFrom size file room at other_length
+  other_size : (room at : ℕ) (r : TapeRecord) → item_at file at ≡ Record r → (r.length ≡ size → ⊥) → DueFrom size file room at other_length
   no_room : (at next : ℕ) → TakenTo size file at next → DueFrom size file zero at too_many
   ends_here : (room at used : ℕ) → item_at file at ≡ Ends used → DueFrom size file room at 0
   goes_on : (room at next n : ℕ) → TakenTo size file at next → DueFrom size file room next n → DueFrom size file (suc room) at n

@@ -32,6 +32,7 @@ use transfer::spacing::{blocks_back, blocks_on, marks_back, marks_on};
 use transfer::writing::{write_blocks, write_filemarks};
 use transfer::{Moved, Stop};
 
+#[tactic(auto, unfolding(crate::specs::Work::ending_of))]
 fn ending_of(h: Header, stop: Stop, left: u32) -> Ending
     requires { h.warning ≤ h.capacity }
     ensures { result ≡ ending_of h stop left }
@@ -59,6 +60,7 @@ fn read(image: &[u8], h: Header, state: State, asked: u32, buf: &mut [u8]) -> Ou
     end_read(image, h.kinds, state, asked, size, moved, ending)
 }
 
+#[tactic(auto, unfolding(crate::specs::Work::write_ending))]
 fn write_ending(h: Header, asked: u32, moved: Moved) -> Ending
     requires { h.warning ≤ h.capacity }
     ensures { result ≡ write_ending h asked moved }
@@ -102,6 +104,7 @@ fn write_marks(image: &mut [u8], h: Header, state: State, asked: u32, buf: &[u8]
     end_moved(state, asked, 0, moved, ending)
 }
 
+#[tactic(auto, unfolding(crate::specs::Work::space_run))]
 fn space_run(image: &[u8], h: Header, p: u32, code: u8, count: u32) -> Moved
     requires image_value { header_of image.now ≡ Good h }
     requires p_le_recorded { p ≤ h.recorded }
@@ -135,6 +138,7 @@ pub fn end_space(h: Header, state: State, moved: Moved) -> Outcome
     end(stand_at(state, moved.place), ending, 0, 0)
 }
 
+#[tactic(auto, unfolding(crate::specs::Work::space_work))]
 fn space(image: &[u8], h: Header, state: State, code: u8, count: u32) -> Outcome
     requires image_value { header_of image.now ≡ Good h }
     requires position_le_recorded { state.position ≤ h.recorded }
@@ -176,6 +180,7 @@ fn read_position(h: Header, state: State, buf: &mut [u8]) -> Outcome
     reply(&bytes, POSITION_LENGTH, state, buf)
 }
 
+#[tactic(auto, unfolding(crate::specs::Work::select_work))]
 fn mode_select(state: State, asked: u8, list: &[u8]) -> Outcome
     requires { asked ≤ length list.now }
     ensures { result ≡ select_work state asked list.now }
@@ -187,6 +192,7 @@ fn mode_select(state: State, asked: u8, list: &[u8]) -> Outcome
     end(state, Ending::Good, 0, asked as u32)
 }
 
+#[tactic(auto, unfolding(crate::specs::Work::locate_work))]
 fn locate(h: Header, state: State, target: u32) -> Outcome
     ensures { result ≡ locate_work h state target }
 {
@@ -202,6 +208,7 @@ fn locate(h: Header, state: State, target: u32) -> Outcome
     end(stand_at(state, target), Ending::Good, 0, 0)
 }
 
+#[tactic(auto, unfolding(stream_parts::specs::Checks::asked_by))]
 pub fn work(image: &mut [u8], h: Header, state: State, q: Request, buf: &mut [u8]) -> Outcome
     requires passed { Passed image.old h state q }
     requires q_in_bounds { (asked_by q.command h q).needed ≤ length buf.old }

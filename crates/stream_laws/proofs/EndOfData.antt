@@ -32,6 +32,8 @@ use Rattle.packet_work.specs.Settings.{good_list, speed_work, load_work, lock_wo
 use Rattle.packet_laws.specs.Words.{Passes}
 use Rattle.packet_laws.proofs.Endings.{ends_none}
 use Rattle.packet_laws.proofs.Ways.{FoundFor, carried, way_beside}
+use Rattle.packet_state.specs.States.{at_place}
+use Rattle.transfer.specs.Reading.{read_from}
 use Rattle.stream_parts.specs.Requests.{request_of, space_code, to_end_of_data}
 use Rattle.stream_parts.specs.Warning.{past_warning}
 use Rattle.stream.specs.Packet.{stream_device, packet_step}
@@ -67,10 +69,12 @@ work_now Unknown s h st q buf = refl
 work_now TestUnitReady s h st q buf = refl
 work_now Rewind s h st q buf = refl
 work_now RequestSense s h st q buf = refl
-work_now Read s h st q buf = ended Read h _ _ _ _ _ _ s _ refl
+work_now Read s h st q buf =
+    let r = read_from s h.size h.kinds h.blocks h.recorded q.count 0 st.position buf in
+    ended Read h (at_place st r.moved.place) _ _ _ _ _ s _ refl
 work_now Write s h st q buf = refl
 work_now WriteFilemarks s h st q buf = refl
-work_now Space s h st q buf = test (eqb (space_code q) to_end_of_data) (λ e. rw e) (λ e. rw e (spaced h _ _ _ s buf))
+work_now Space s h st q buf = test (eqb (space_code q) to_end_of_data) (λ e. rw e) (λ e. rw e (spaced h (at_place st (space_run s h st.position (space_code q) q.count).place) _ _ s buf))
 work_now Inquiry s h st q buf = refl
 work_now ModeSelect s h st q buf = refl
 work_now ModeSense s h st q buf = refl

@@ -70,7 +70,7 @@ module _ (kind : Kind) (i : ℕ) (bytes : List ℕ) (s : List ℕ) (st : State) 
 
 -- ---- a whole history
 
-later_block : (kind : Kind) (i : ℕ) (bytes : List ℕ) {s s' : List ℕ} {st st' : State} → Later i s st s' st'
+later_block : (kind : Kind) (i : ℕ) (bytes : List ℕ) {s : List ℕ} {st : State} {s' : List ℕ} {st' : State} → Later i s st s' st'
     → IsRecordedAs kind s i bytes → IsRecordedAs kind s' i bytes
 later_block kind i bytes at_once b = b
 later_block kind i bytes (asked packet buf l f) b = still_block kind i bytes _ _ packet buf (later_block kind i bytes l b) f

@@ -67,7 +67,7 @@ stored_way h p n false b g e f = all_stored refl (λ l. absurd (omega (arith, le
 write_way : (h : Header) (p n : ℕ) (m : Moved) → LayStops h.capacity p n m
     → WriteWay h p n (n - m.left) (status_for (write_ending h n m)) (sense_of (write_ending h n m)) m.place
 unfolding write_ending
-write_way h p n m (LayStops.all_Laid z w b) =
+write_way h p n m (LayStops.all_laid z w b) =
     let v : n - m.left ≡ n = omega arith in
     rw (v, z, w) (stored_way h p n (leb 1 n) (ltb (h.capacity - h.warning) (p + n)) b refl refl)
 write_way h p n m (LayStops.at-end k l e w b) =

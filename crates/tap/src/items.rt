@@ -4,7 +4,7 @@ ghost use Rattle.tap.specs.Items.{record_at, item_at};
 
 use numbers::words::word_at;
 
-#[derive(Drop)]
+#[derive(Clone, Copy)]
 pub struct TapeRecord {
     pub from: usize, // where its bytes start
     pub length: u32, // how many they are
@@ -12,7 +12,7 @@ pub struct TapeRecord {
     pub next: usize, // the place after its second word
 }
 
-#[derive(Drop)]
+#[derive(Clone, Copy)]
 pub enum Item {
     Ends(usize), // the end mark or the end of the file, and the place after it
     Mark(usize), // a tape mark, and the place after it

@@ -13,7 +13,7 @@ const OTHER_LENGTH: u8 = 12;
 const TOO_MANY: u8 = 13;
 
 // What an item means for a reader with blocks of one size.
-#[derive(Drop)]
+#[derive(Clone, Copy)]
 pub enum Turn {
     Takes(usize), // an element, and the place after it
     Stops(usize), // the end, and the place after it
@@ -21,7 +21,7 @@ pub enum Turn {
 }
 
 // What a file is found to hold: so many elements in so many bytes, with the end mark.
-#[derive(Drop)]
+#[derive(Clone, Copy)]
 pub enum Found {
     Refuses(u8),
     Counts(u32, usize),

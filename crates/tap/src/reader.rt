@@ -5,7 +5,7 @@ ghost use Rattle.tap.specs.Items.{item_at};
 
 use crate::items::{Item, item_at};
 
-#[derive(Drop)]
+#[derive(Clone, Copy)]
 pub struct Reader<'a> {
     pub file: &'a [u8],
     pub at: usize,
