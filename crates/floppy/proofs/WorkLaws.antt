@@ -55,9 +55,6 @@ module _ (h : Header) (st : State) (t : Tape) (q : Request) where
   pub tape_shown : (page_code q ≡ᵇ device_page) ≡ false → (page_code q ≡ᵇ tape_page) ≡ true → tape_mode h t ≡ mode_bytes h st t q
   tape_shown e f = rw (e, f)
 
-  pub header_shown : (page_code q ≡ᵇ device_page) ≡ false → (page_code q ≡ᵇ tape_page) ≡ false → mode_header h 11 ≡ mode_bytes h st t q
-  header_shown e f = rw (e, f)
-
 -- ---- by command
 
 -- the tags of the commands that do nothing more, and of first bytes that are none
