@@ -15,7 +15,7 @@ write_blocks-moved-requires c =
       end_bound = omega arith;
       end_bound_2 = omega arith;
       size_in_bounds = omega arith;
-      p_le_end = c.requires.position_le_end;
+      p_le_end = omega arith;
       size_in_bounds_2 = c.requires.size_in_bounds;
     }
 
