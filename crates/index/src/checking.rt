@@ -24,6 +24,7 @@ pub fn is_short(index: &[u8], capacity: u32) -> bool
 }
 
 // Place p, where it is a filemark's, against entry n.
+#[tactic(auto, unfolding(crate::specs::Checking::compared_at))]
 fn compare_entry(index: &[u8], n: u32, p: u32, mark: bool) -> Compared
     requires { (4 * n + 4 ≤ length index.now) × (n < 65535) }
     ensures { result ≡ compared_at mark index.now n p }

@@ -16,6 +16,7 @@ use stream_parts::checks::verdict;
 use stream_parts::requests::request_of;
 
 // Only the entries from place p on are written: a store from there to the end left this image.
+#[tactic(auto, unfolding(crate::specs::Rewriting::rewritten))]
 fn rewrite(image: &[u8], h: Header, index: &mut [u8], p: u32, end: u32)
     requires p_le_end { (p ≤ end) × (end ≤ h.capacity) × (h.capacity ≤ 65535) × (h.kinds + h.capacity ≤ length image.now) }
     requires capacity_in_bounds { 4 * h.capacity ≤ length index.old }

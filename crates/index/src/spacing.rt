@@ -35,6 +35,7 @@ fn back_by_entries(index: &[u8], before: u32, n: u32, p: u32) -> Moved
     halt(0, n - before, Stop::AtBeginning)
 }
 
+#[tactic(auto, unfolding(crate::specs::Spacing::run_by_entries))]
 pub fn run_by_entries(index: &[u8], h: Header, p: u32, count: u32) -> Moved
     requires p_le_recorded { (p ≤ h.recorded) × (h.recorded ≤ h.capacity) × (h.capacity ≤ 65535) × (count < 2 ^ 24) }
     requires capacity_in_bounds { 4 * h.capacity ≤ length index.now }

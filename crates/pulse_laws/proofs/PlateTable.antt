@@ -26,7 +26,8 @@ unfolding after_trains answers all_print prints power_on insert_call inserted lo
 plates_print = refl
 
 pub list_plates_answer : ListPlatesAnswer
-unfolding trains_call after_list levels_of all_answer answers_as after_trains power_on insert_call inserted load_started train_call keeps_rules cartridge_fits is_in
+unfolding trains_call after_list levels_of all_answer answers_as after_trains power_on
+    insert_call inserted load_started train_call keeps_rules cartridge_fits is_in
     train_step step_reset step_argument argument_read argument_taken track_sought nibble_of needed nibble_taken skipped run_started
     step_report item_given step_unsupported latched step_open_report report_of status_asked error_read step_command checked obeyed
 list_plates_answer = refl

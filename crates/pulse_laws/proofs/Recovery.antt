@@ -74,7 +74,8 @@ record Asked (d x : Drive) : Type 0 where
   pub shut : is_open x.report ≡ false
 
 module _ (d : Drive) (i : Idle d) (y : is_ready d ≡ true) (o : is_open d.report ≡ false) where
-  six : ((train_step d report_status).fault ≡ d.fault) × ((train_step d report_status).marks.asked ≡ true) × (owed (train_step d report_status).report ≡ status_items)
+  six : ((train_step d report_status).fault ≡ d.fault) × ((train_step d report_status).marks.asked ≡ true)
+      × (owed (train_step d report_status).report ≡ status_items)
   unfolding step_open_report status_asked report_of owed
   six = rw (six_is d i, o, y) (refl, refl, refl)
 
@@ -103,7 +104,8 @@ ask d i y l =
     xy : is_ready x ≡ true
     xy = still_ready d.head x.head (stood d (next_bits closing) i y refl).head y
 
-    s : ((train_step x report_status).fault ≡ x.fault) × ((train_step x report_status).marks.asked ≡ true) × (owed (train_step x report_status).report ≡ status_items)
+    s : ((train_step x report_status).fault ≡ x.fault) × ((train_step x report_status).marks.asked ≡ true)
+        × (owed (train_step x report_status).report ≡ status_items)
     s = six x p.idle xy (shut x.report (omega (arith, p.less)))
 
     t : Steady x.head (train_step x report_status)
