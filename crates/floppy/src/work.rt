@@ -52,6 +52,7 @@ fn read_ending(stop: Stop, left: u32) -> Ending
     }
 }
 
+#[tactic(auto, unfolding(crate::specs::Work::read_work, crate::specs::Work::read_ends))]
 fn read(image: &[u8], h: Header, end: u32, state: State, asked: u8, buf: &mut [u8]) -> Outcome
     requires image_value { header_of image.now ≡ Good h }
     requires end_le_capacity { end ≤ h.capacity }
@@ -80,6 +81,7 @@ fn write_ending(left: u32) -> Ending
 }
 
 // 02, A1: "a write leaves U".
+#[tactic(auto, unfolding(crate::specs::Work::write_work, crate::specs::Work::write_ends))]
 fn write(image: &mut [u8], h: Header, end: u32, state: State, asked: u8, buf: &[u8]) -> Outcome
     requires image_value { header_of image.old ≡ Good h }
     requires end_le_capacity { end ≤ h.capacity }
@@ -170,7 +172,7 @@ fn mode_select(h: Header, state: State, asked: u8, list: &[u8]) -> Outcome
 
 // ---- by command
 
-#[tactic(auto, unfolding(floppy_parts::specs::Checks::asked_by))]
+#[tactic(auto, unfolding(floppy_parts::specs::Checks::asked_by, crate::specs::Work::work_of))]
 pub fn work(
     image: &mut [u8],
     h: Header,

@@ -2,7 +2,7 @@
 use native.Mathlib.Omega.{arith}
 use Rattle.image.proofs.HeaderLaws.{sound}
 use Rattle.packet_parts.proofs.VerdictLaws.{works_clear}
-use Rattle.floppy.proofs.PacketLaws.{was_refused, ended_before_lem, worked, room_of}
+use Rattle.floppy.proofs.PacketLaws.{room_of}
 use Rattle.floppy.proofs.decide.Goals as goal
 
 pub end_of-requires : goal.end_of-requires
@@ -18,14 +18,3 @@ pub work-requires-clause-q_in_bounds : goal.work-requires-clause-q_in_bounds
 work-requires-clause-q_in_bounds c =
     let w = (works_clear _ _ _ _ _ c.verdict-found.ensures c.in-Works.is).1 in
     room_of _ _ _ _ _ _ c.end_of.ensures w
-
-pub returns-in-Refuses : goal.returns-in-Refuses
-returns-in-Refuses c = search was_refused
-
-pub returns-in-Ends : goal.returns-in-Ends
-returns-in-Ends c = search ended_before_lem
-
-pub returns-in-Works : goal.returns-in-Works
-returns-in-Works c =
-    worked _ _ _ _ _ _ _ _ _ _ c.end_of.ensures c.verdict-found.ensures _ _ _ c.in-Works.is c.tape_after-after.ensures
-    c.work.ensures c.joined-in-Works.ensures

@@ -3,7 +3,6 @@ use native.Mathlib.Nat.{mul-le-mul_right}
 use native.Mathlib.Omega.{arith}
 use Rattle.image.proofs.HeaderLaws.{sound}
 use Rattle.transfer.proofs.ReadLaws.{came-less, came-few}
-use Rattle.floppy.proofs.WorkLaws.{read_went}
 use Rattle.floppy.proofs.work.read.Goals as goal
 
 pub read_blocks-moved-requires : goal.read_blocks-moved-requires
@@ -26,6 +25,3 @@ end_read-requires c =
     let l = came-less _ _ _ _ _ _ _ _ _ _ _ run in
     let f = came-few _ _ _ _ _ _ _ _ _ _ _ run c.requires.position_le_end in
     record { size_bound = omega arith; left_le_asked = omega arith; left_bound = omega arith; left_in_bounds = omega arith }
-
-pub returns : goal.returns
-returns c = search read_went

@@ -3,7 +3,6 @@ use native.Mathlib.Nat.{mul-le-mul_right}
 use native.Mathlib.Omega.{arith}
 use Rattle.image.proofs.HeaderLaws.{sound}
 use Rattle.transfer.proofs.StopLaws.{laid-less}
-use Rattle.floppy.proofs.WorkLaws.{write_went}
 use Rattle.floppy.proofs.work.write.Goals as goal
 
 pub write_blocks-moved-requires : goal.write_blocks-moved-requires
@@ -24,6 +23,3 @@ end_moved-requires c =
     let g = sound _ _ c.requires.image_value in
     let l = laid-less _ _ _ _ _ _ _ _ c.write_blocks-moved.ensures in
     record { size_bound = omega arith; left_le_asked = omega arith }
-
-pub returns : goal.returns
-returns c = search write_went
