@@ -36,8 +36,8 @@ plates_print = refl
 
 pub speed_plates : SpeedPlates
 unfolding answers_to decided carried_out verdict_by found_first asked_by floppy_request request_under keeps_record_rules keeps_floppy_rules floppy_command
-    is_full keeps_header_rules fields_of all_hold is_in ends first_of reply_ends good_list speed_work product reset_tape select_work work_of selected_tape tape_after
-    mounted
+    is_full keeps_header_rules fields_of all_hold is_in ends first_of reply_ends good_list speed_work product reset_tape select_work work_of
+    selected_tape tape_after mounted
 speed_plates =
     record {
       starts = refl;
