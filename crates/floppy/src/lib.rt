@@ -30,6 +30,7 @@ const BROKEN_IMAGE: u8 = 2;
 const UNRULY_RECORD: u8 = 3;
 
 // The next record over this image, or 2 and the record as it was.
+#[tactic(auto, unfolding(crate::specs::Packet::mounted, floppy_parts::specs::Headers::full_header_of))]
 fn mount(image: &[u8], before: Floppy, next: State) -> FloppyOutcome
     ensures { result ≡ mounted image.now before next }
 {
@@ -55,6 +56,7 @@ pub fn changed(image: &[u8], before: Floppy) -> FloppyOutcome
     mount(image, before, changed_state(shared))
 }
 
+#[tactic(auto, unfolding(packet_parts::specs::Shell::decided, packet_parts::specs::Shell::carried_out))]
 fn decide(
     image: &mut [u8],
     h: Header,
@@ -79,6 +81,7 @@ fn decide(
 }
 
 // 01: "Packet order: 1, 2, 3, attention, opcode, fields, not ready, protection, 4, list contents, the work."
+#[tactic(auto, unfolding(packet_parts::specs::Shell::answers_to, floppy_parts::specs::Headers::full_header_of))]
 pub fn packet(image: &mut [u8], before: Floppy, packet: &[u8], buf: &mut [u8]) -> FloppyOutcome
     ensures { PacketPromise image.old before packet.now buf.old result image.new buf.new }
 {

@@ -39,6 +39,7 @@ fn without_one(left: u32) -> u32
 }
 
 // 02, A1: "Its residue on an unreadable block leaves out the block in error", and a filemark "counts as unreadable". "W plays no part": no EOM.
+#[tactic(auto, unfolding(crate::specs::Work::read_ending))]
 fn read_ending(stop: Stop, left: u32) -> Ending
     ensures { result ≡ read_ending stop left }
 {
@@ -51,6 +52,7 @@ fn read_ending(stop: Stop, left: u32) -> Ending
     }
 }
 
+#[tactic(auto, unfolding(crate::specs::Work::read_work, crate::specs::Work::read_ends))]
 fn read(image: &[u8], h: Header, end: u32, state: State, asked: u8, buf: &mut [u8]) -> Outcome
     requires image_value { header_of image.now ≡ Good h }
     requires end_le_capacity { end ≤ h.capacity }
@@ -67,6 +69,7 @@ fn read(image: &[u8], h: Header, end: u32, state: State, asked: u8, buf: &mut [u
     end_read(image, h.kinds, state, n, size, moved, ending)
 }
 
+#[tactic(auto, unfolding(crate::specs::Work::write_ending))]
 fn write_ending(left: u32) -> Ending
     ensures { result ≡ write_ending left }
 {
@@ -78,6 +81,7 @@ fn write_ending(left: u32) -> Ending
 }
 
 // 02, A1: "a write leaves U".
+#[tactic(auto, unfolding(crate::specs::Work::write_work, crate::specs::Work::write_ends))]
 fn write(image: &mut [u8], h: Header, end: u32, state: State, asked: u8, buf: &[u8]) -> Outcome
     requires image_value { header_of image.old ≡ Good h }
     requires end_le_capacity { end ≤ h.capacity }
@@ -124,6 +128,7 @@ fn mode_sense(h: Header, state: State, tape: Tape, q: Request, buf: &mut [u8]) -
 // ---- 15h
 
 // 02, A1: "one that puts it below P sets P 0".
+#[tactic(auto, unfolding(crate::specs::Work::place_under))]
 fn place_under(end: u32, p: u32) -> u32
     ensures { result ≡ place_under end p }
 {
@@ -134,6 +139,7 @@ fn place_under(end: u32, p: u32) -> u32
     p
 }
 
+#[tactic(auto, unfolding(crate::specs::Work::tape_work))]
 fn select_tape(h: Header, state: State, list: &[u8]) -> Outcome
     requires { (h.capacity ≤ 65535) × (28 ≤ length list.now) }
     ensures { result ≡ tape_work h state list.now }
@@ -147,6 +153,7 @@ fn select_tape(h: Header, state: State, list: &[u8]) -> Outcome
     end(state, Ending::Check(wrong_list()), 0, 0)
 }
 
+#[tactic(auto, unfolding(crate::specs::Work::select_work))]
 fn mode_select(h: Header, state: State, asked: u8, list: &[u8]) -> Outcome
     requires { (h.capacity ≤ 65535) × (asked ≤ length list.now) }
     ensures { result ≡ select_work h state asked list.now }
@@ -165,6 +172,7 @@ fn mode_select(h: Header, state: State, asked: u8, list: &[u8]) -> Outcome
 
 // ---- by command
 
+#[tactic(auto, unfolding(floppy_parts::specs::Checks::asked_by, crate::specs::Work::work_of))]
 pub fn work(
     image: &mut [u8],
     h: Header,

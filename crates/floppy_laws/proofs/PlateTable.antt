@@ -36,7 +36,8 @@ plates_print = refl
 
 pub speed_plates : SpeedPlates
 unfolding answers_to decided carried_out verdict_by found_first asked_by floppy_request request_under keeps_record_rules keeps_floppy_rules floppy_command
-    is_full keeps_header_rules fields_of all_hold is_in ends first_of reply_ends good_list speed_work product reset_tape select_work work_of selected_tape tape_after mounted
+    is_full keeps_header_rules fields_of all_hold is_in ends first_of reply_ends good_list speed_work product reset_tape select_work work_of
+    selected_tape tape_after mounted
 speed_plates =
     record {
       starts = refl;
@@ -49,8 +50,8 @@ speed_plates =
 
 pub marked_plates_lem : MarkedPlates
 unfolding answers_to decided carried_out verdict_by found_first asked_by floppy_request request_under keeps_record_rules keeps_floppy_rules floppy_command
-    is_full keeps_header_rules fields_of all_hold is_in kind_of kind_at block_at lay_block stop_at read_from marked_from lay_from ends read_ending read_ends read_work
-    write_ending write_ends write_work product reset_tape listed_tape work_of tape_after
+    is_full keeps_header_rules fields_of all_hold is_in kind_of kind_at block_at lay_block stop_at read_from marked_from lay_from ends read_ending read_ends
+    read_work write_ending write_ends write_work product reset_tape listed_tape work_of tape_after
 marked_plates_lem = record { clear = refl; deleting = refl; set = refl }
 
 pub door_plates : DoorPlates

@@ -77,7 +77,7 @@ module _ (kind : Kind) (i : ℕ) (bytes : List ℕ) (s : List ℕ) (f : Floppy) 
 
 -- ---- a whole history
 
-later_block : (kind : Kind) (i : ℕ) (bytes : List ℕ) {s s' : List ℕ} {f f' : Floppy} → Later i s f s' f'
+later_block : (kind : Kind) (i : ℕ) (bytes : List ℕ) {s : List ℕ} {f : Floppy} {s' : List ℕ} {f' : Floppy} → Later i s f s' f'
     → IsDataAs kind s i bytes → IsDataAs kind s' i bytes
 later_block kind i bytes at_once b = b
 later_block kind i bytes (asked packet buf l e) b = still_block kind i bytes _ _ packet buf (later_block kind i bytes l b) e

@@ -31,7 +31,7 @@ use Rattle.floppy_laws.proofs.Selecting.{Selected, speed-set, speed-wrong, tape-
 ends_number : (st : State) (e : Ending) (blocks bytes : ℕ) → (ends st e blocks bytes).answer.number ≡ 0
 ends_number st e blocks bytes = rw ends_is
 
-select_number : {h : Header} {st : State} {t tape : Tape} {list : List ℕ} {asked : ℕ} {out : Outcome}
+select_number : {h : Header} {st : State} {t : Tape} {list : List ℕ} {asked : ℕ} {out : Outcome} {tape : Tape}
     → Selected h st t list asked out tape → out.answer.number ≡ 0
 select_number (speed-set e g) = ends_number _ _ _ _
 select_number (speed-wrong e) = ends_number _ _ _ _

@@ -53,7 +53,7 @@ module _ (s : List ℕ) (f : Floppy) (p n : ℕ) (m : Moved) where
   write_way : LayStops (end_of f) p n m
       → WriteWay f p n (n - m.left) (status_for (write_ending m.left)) (sense_of (write_ending m.left)) m.place
   unfolding write_ending
-  write_way (LayStops.all_Laid z w b) =
+  write_way (LayStops.all_laid z w b) =
       let v : n - m.left ≡ n = omega arith in
       rw (v, z, w) (all_stored refl b)
   write_way (LayStops.at-end k l a w b) =

@@ -9,6 +9,7 @@ use numbers::copying::copy_block;
 use numbers::counts::{count2, put_count2};
 use packet_record::{decode_state, encode_state};
 
+#[tactic(auto, unfolding(crate::specs::FloppyRecord::decode_tape))]
 fn decode_tape(bytes: &[u8]) -> Tape
     requires { 32 ≤ length bytes.now }
     ensures { result ≡ decode_tape bytes.now }
@@ -24,6 +25,7 @@ fn decode_tape(bytes: &[u8]) -> Tape
     }
 }
 
+#[tactic(auto, unfolding(crate::specs::FloppyRecord::decode_floppy))]
 pub fn decode_floppy(bytes: &[u8]) -> Floppy
     requires { 32 ≤ length bytes.now }
     ensures { result ≡ decode_floppy bytes.now }
@@ -31,6 +33,7 @@ pub fn decode_floppy(bytes: &[u8]) -> Floppy
     floppy_of(decode_state(bytes), decode_tape(bytes))
 }
 
+#[tactic(auto, unfolding(crate::specs::FloppyRecord::encode_tape))]
 fn encode_tape(tape: Tape) -> [u8; 16]
     ensures { result ≡ encode_tape tape }
 {
@@ -49,6 +52,7 @@ fn encode_tape(tape: Tape) -> [u8; 16]
     bytes
 }
 
+#[tactic(auto, unfolding(crate::specs::FloppyRecord::encode_floppy, packet_record::specs::PacketRecord::encode_state))]
 pub fn encode_floppy(f: Floppy) -> [u8; 32]
     ensures { result ≡ encode_floppy f }
 {
