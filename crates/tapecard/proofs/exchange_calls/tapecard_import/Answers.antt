@@ -1,0 +1,6 @@
+-- `exchange_calls::tapecard_import` meets its contract.
+use Rattle.tapecard.proofs.CallLaws.{ways}
+use Rattle.tapecard.proofs.exchange_calls.tapecard_import.Goals as goal
+
+pub returns : goal.returns
+returns c = search ways

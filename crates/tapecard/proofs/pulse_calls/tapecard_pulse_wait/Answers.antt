@@ -1,0 +1,6 @@
+-- `pulse_calls::tapecard_pulse_wait` meets its contract.
+use Rattle.tapecard.proofs.CallLaws.{ways}
+use Rattle.tapecard.proofs.pulse_calls.tapecard_pulse_wait.Goals as goal
+
+pub returns : goal.returns
+returns c = search ways
