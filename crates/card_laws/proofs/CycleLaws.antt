@@ -1,5 +1,6 @@
 -- A record that is encoded is decoded again.
 -- Assumes nothing.
+use Rattle.std.specs.Prelude.{if◌then◌else◌}
 use mathlib.Core.Path.{◌≡◌, refl}
 use mathlib.Core.Bool.{Bool, true, false, ◌||◌}
 use mathlib.Core.List.{List, [], ◌++◌}
@@ -10,7 +11,7 @@ use borrow.Author.Tests.{ne_eqb, leb-true, ltb-true, eqb-true}
 use lib.ListN.{get_or}
 use Rattle.numbers.proofs.CountLaws.{count_bound}
 use Rattle.numbers.specs.Counts.{count_at}
-use Rattle.numbers.specs.Choice.{if◌then◌else◌, ◌≡ᵇ◌, ◌<ᵇ◌}
+use Rattle.numbers.specs.Choice.{◌≡ᵇ◌, ◌<ᵇ◌}
 use Rattle.numbers.proofs.Cases.{ands}
 use Rattle.packet_state.specs.declared.state.Attention.{Attention}
 use Rattle.packet_state.specs.declared.state.Sense.{Sense}

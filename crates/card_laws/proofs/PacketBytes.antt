@@ -1,5 +1,6 @@
 -- What a call of the packet drive leaves of its record, and what it answers, are bytes.
 -- Assumes nothing.
+use Rattle.std.specs.Prelude.{if◌then◌else◌}
 use mathlib.Core.Path.{◌≡◌, refl, ◌∙◌}
 use mathlib.Core.Bool.{Bool, true, false, cond, not, ◌&&◌}
 use mathlib.Core.List.{List, ◌++◌}
@@ -7,7 +8,7 @@ use Prim.Native.Nat.{ℕ, ◌<◌}
 use native.Mathlib.Omega.{arith}
 use borrow.Author.Tests.{eqb-true, ltb-true, not-true}
 use lib.ListN.{length}
-use Rattle.numbers.specs.Choice.{◌<ᵇ◌, ◌≡ᵇ◌, if◌then◌else◌}
+use Rattle.numbers.specs.Choice.{◌<ᵇ◌, ◌≡ᵇ◌}
 use Rattle.numbers.proofs.Cases.{ands, either}
 use Rattle.image.specs.declared.header.Header.{Header}
 use Rattle.image.specs.Header.{fields_of}

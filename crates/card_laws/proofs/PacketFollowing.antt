@@ -1,5 +1,6 @@
 -- Bytes kept between packets follow the engine: the record that an accepted packet leaves fits its bytes, and so do the counts of its answer.
 -- Assumes nothing.
+use Rattle.std.specs.Prelude.{if◌then◌else◌}
 use mathlib.Core.Path.{◌≡◌, refl, sym}
 use mathlib.Core.Bool.{Bool, true, false}
 use mathlib.Core.List.{List}
@@ -8,7 +9,6 @@ use native.Mathlib.Nat.{mul-le-mul}
 use native.Mathlib.Omega.{arith}
 use borrow.Author.Tests.{eqb-true, eqb-false}
 use lib.Dec.{eqb}
-use Rattle.numbers.specs.Choice.{if◌then◌else◌}
 use Rattle.numbers.specs.Counts.{count_at}
 use Rattle.numbers.proofs.CountLaws.{count_bound}
 use Rattle.image.proofs.HeaderLaws.{sound}

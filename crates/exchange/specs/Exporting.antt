@@ -1,7 +1,7 @@
 -- 02, A7: "Write ours out."
 -- Assumes nothing.
-use Rattle.std.specs.Prelude.{ℕ, zero, suc, ◌+◌, true, false, not, List, [], ◌∷◌, ◌≡◌, length}
-use Rattle.numbers.specs.Choice.{if◌then◌else◌, ◌<ᵇ◌}
+use Rattle.std.specs.Prelude.{ℕ, zero, suc, ◌+◌, true, false, not, List, [], ◌∷◌, ◌≡◌, length, if◌then◌else◌}
+use Rattle.numbers.specs.Choice.{◌<ᵇ◌}
 use Rattle.numbers.specs.Over.{over}
 use Rattle.image.specs.declared.elements.Kind.{Kind}
 use Rattle.image.specs.declared.elements.Kind.TheVariants.{Data, Filemark, Unreadable, Marked}

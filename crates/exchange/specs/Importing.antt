@@ -1,7 +1,6 @@
 -- 02, A7: "read theirs in."
 -- Assumes nothing.
-use Rattle.std.specs.Prelude.{ℕ, ◌+◌, true, false, not, List, [], ◌∷◌, ◌≡◌, length}
-use Rattle.numbers.specs.Choice.{if◌then◌else◌}
+use Rattle.std.specs.Prelude.{ℕ, ◌+◌, true, false, not, List, [], ◌∷◌, ◌≡◌, length, if◌then◌else◌}
 use Rattle.image.specs.declared.header.Header.{Header}
 use Rattle.image.specs.Elements.{lay_block, lay_unreadable, lay_mark, set_recorded}
 use Rattle.image.specs.Header.{fields_of, keeps_header_rules, broken_image}

@@ -1,7 +1,7 @@
 -- 02, A7 worked out by hand, over 01's image of four blocks of 512 bytes, each byte 7: a record of it is 4 + 512 + 4 bytes.
 -- Assumes nothing.
-use Rattle.std.specs.Prelude.{ℕ, Bool, true, ◌&&◌, List, [], ◌∷◌, ◌++◌, replicate, set}
-use Rattle.numbers.specs.Choice.{if◌then◌else◌, ◌≡ᵇ◌}
+use Rattle.std.specs.Prelude.{ℕ, Bool, true, ◌&&◌, List, [], ◌∷◌, ◌++◌, replicate, set, if◌then◌else◌}
+use Rattle.numbers.specs.Choice.{◌≡ᵇ◌}
 use Rattle.numbers.specs.Over.{over}
 use Rattle.numbers.specs.Same.{same}
 use Rattle.packet_state.specs.declared.state.State.{State}

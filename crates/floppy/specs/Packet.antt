@@ -1,7 +1,6 @@
 -- What a packet leaves of the floppy tape device, and what the fresh record and the cartridge change leave, for every input.
 -- Assumes nothing.
-use Rattle.std.specs.Prelude.{ℕ, not, List, ◌≡◌}
-use Rattle.numbers.specs.Choice.{if◌then◌else◌}
+use Rattle.std.specs.Prelude.{ℕ, not, List, ◌≡◌, if◌then◌else◌}
 use Rattle.image.specs.declared.header.Header.{Header}
 use Rattle.image.specs.Header.{fields_of, broken_image}
 use Rattle.packet_state.specs.declared.state.Ending.TheVariants.{Good}

@@ -1,7 +1,7 @@
 -- 02, A1: "over the same image with U = C".
 -- Assumes nothing.
-use Rattle.std.specs.Prelude.{ℕ, Bool, not, ◌&&◌, List}
-use Rattle.numbers.specs.Choice.{if◌then◌else◌, ◌<ᵇ◌}
+use Rattle.std.specs.Prelude.{ℕ, Bool, not, ◌&&◌, List, if◌then◌else◌}
+use Rattle.numbers.specs.Choice.{◌<ᵇ◌}
 use Rattle.image.specs.declared.header.Judged.{Judged}
 use Rattle.image.specs.declared.header.Judged.TheVariants.{Good, Broken}
 use Rattle.image.specs.Header.{fields_of, keeps_header_rules}

@@ -1,7 +1,7 @@
 -- The bytes that 12h and 1Ah give, where the floppy tape device has its own.
 -- Assumes nothing.
-use Rattle.std.specs.Prelude.{ℕ, ◌-◌, List, [], ◌∷◌, ◌++◌}
-use Rattle.numbers.specs.Choice.{if◌then◌else◌, ◌≡ᵇ◌}
+use Rattle.std.specs.Prelude.{ℕ, ◌-◌, List, [], ◌∷◌, ◌++◌, if◌then◌else◌}
+use Rattle.numbers.specs.Choice.{◌≡ᵇ◌}
 use Rattle.numbers.specs.Counts.{count_bytes}
 use Rattle.image.specs.declared.header.Header.{Header}
 use Rattle.packet_state.specs.declared.state.State.{State}

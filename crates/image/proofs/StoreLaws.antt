@@ -1,6 +1,7 @@
 -- What is laid on the tape and what is recorded of it: laying keeps the header, element i reads back, the others keep kind and bytes;
 -- recording keeps all but U.
 -- Assumes nothing.
+use Rattle.std.specs.Prelude.{if◌then◌else◌}
 use mathlib.Core.Path.{◌≡◌, refl, sym, ap, ◌∙◌}
 use mathlib.Core.List.{List}
 use mathlib.Core.Logic.{◌⊎◌, inl, inr, ⊎_elim}
@@ -12,7 +13,6 @@ use lib.Dec.{ltb}
 use lib.ListN.{length, set, get_or, length-set}
 use lib.Seq.{get_or-set_same, get_or-set_other}
 use borrow.Rule.Slice.PartMut.{mid_of, put_mid}
-use Rattle.numbers.specs.Choice.{if◌then◌else◌}
 use Rattle.numbers.specs.Counts.{count_at, put_count}
 use Rattle.numbers.specs.Over.{over, part}
 use Rattle.numbers.proofs.Cases.{test, either}

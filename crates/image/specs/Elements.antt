@@ -1,7 +1,7 @@
 -- The elements of an image with its kind table at K and blocks of B bytes at D.
 -- Assumes nothing.
-use Rattle.std.specs.Prelude.{ℕ, ◌+◌, ◌*◌, Bool, true, false, List, get_or, set}
-use Rattle.numbers.specs.Choice.{if◌then◌else◌, ◌≡ᵇ◌, ◌<ᵇ◌}
+use Rattle.std.specs.Prelude.{ℕ, ◌+◌, ◌*◌, Bool, true, false, List, get_or, set, if◌then◌else◌}
+use Rattle.numbers.specs.Choice.{◌≡ᵇ◌, ◌<ᵇ◌}
 use Rattle.numbers.specs.Counts.{put_count}
 use Rattle.numbers.specs.Over.{over, part}
 use Rattle.image.specs.declared.elements.Kind.{Kind}

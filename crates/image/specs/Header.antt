@@ -2,8 +2,7 @@
 -- elements; 8-11 recorded U, at most C; 12-15 offset K of the kind table; 16-19 offset D of the blocks; 20 write protect, 0 or 1; 21 medium type, any;
 -- 22-23 early warning W, at most C; 24-31 zero. Also K >= 32, K + C <= D, D + C*B <= image length."
 -- Assumes nothing.
-use Rattle.std.specs.Prelude.{ℕ, ◌+◌, ◌*◌, List, [], ◌∷◌, Bool, ◌&&◌, length, get_or}
-use Rattle.numbers.specs.Choice.{if◌then◌else◌}
+use Rattle.std.specs.Prelude.{ℕ, ◌+◌, ◌*◌, List, [], ◌∷◌, Bool, ◌&&◌, length, get_or, if◌then◌else◌}
 use Rattle.numbers.specs.Counts.{count_at}
 use Rattle.numbers.specs.RuleList.{Rule, ◌≤ʳ◌, ◌≡ʳ◌, ◌∈ʳ◌, all_hold}
 use Rattle.image.specs.declared.header.Header.{Header}

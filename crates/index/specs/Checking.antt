@@ -1,7 +1,7 @@
 -- 02, A4: an index compared with a fresh one, entry by entry.
 -- Assumes nothing.
-use Rattle.std.specs.Prelude.{ℕ, ◌+◌, Bool, true, not, ◌&&◌, List, [], ◌∷◌, length}
-use Rattle.numbers.specs.Choice.{if◌then◌else◌, ◌≡ᵇ◌}
+use Rattle.std.specs.Prelude.{ℕ, ◌+◌, Bool, true, not, ◌&&◌, List, [], ◌∷◌, length, if◌then◌else◌}
+use Rattle.numbers.specs.Choice.{◌≡ᵇ◌}
 use Rattle.index.specs.declared.checking.Compared.{Compared}
 use Rattle.index.specs.declared.checking.Compared.TheVariants.{Differs, Same}
 use Rattle.index.specs.Spacing.{entry_at}

@@ -1,8 +1,7 @@
 -- 02, A4: "Keep an index of filemark places, ascending, in a second lent buffer, four bytes for each; the rest of the first 4*C bytes is FFh, and bytes
 -- beyond stay."
 -- Assumes nothing.
-use Rattle.std.specs.Prelude.{ℕ, zero, suc, ◌+◌, ◌*◌, ◌-◌, ◌^◌, Bool, List, [], ◌∷◌, ◌++◌, length, replicate}
-use Rattle.numbers.specs.Choice.{if◌then◌else◌}
+use Rattle.std.specs.Prelude.{ℕ, zero, suc, ◌+◌, ◌*◌, ◌-◌, ◌^◌, Bool, List, [], ◌∷◌, ◌++◌, length, replicate, if◌then◌else◌}
 use Rattle.numbers.specs.Counts.{count_bytes}
 use Rattle.numbers.specs.Over.{over}
 use Rattle.numbers.specs.Same.{same}

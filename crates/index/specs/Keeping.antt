@@ -1,7 +1,7 @@
 -- 02, A4: what the two calls leave: an index made, and a packet of the stream device beside an index.
 -- Assumes nothing.
-use Rattle.std.specs.Prelude.{ℕ, ◌*◌, ◌≤◌, true, not, List, ◌≡◌, length}
-use Rattle.numbers.specs.Choice.{if◌then◌else◌, ◌≡ᵇ◌, ◌<ᵇ◌}
+use Rattle.std.specs.Prelude.{ℕ, ◌*◌, ◌≤◌, true, not, List, ◌≡◌, length, if◌then◌else◌}
+use Rattle.numbers.specs.Choice.{◌≡ᵇ◌, ◌<ᵇ◌}
 use Rattle.image.specs.declared.header.Header.{Header}
 use Rattle.image.specs.declared.header.Judged.TheVariants.{Good as GoodHeader}
 use Rattle.image.specs.Header.{fields_of, header_of, keeps_header_rules, broken_image}

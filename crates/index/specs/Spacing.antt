@@ -1,8 +1,8 @@
 -- 02, A4: "SPACE over filemarks through the index gives the same answer, sense and position as without it.": its place and its count are taken from the
 -- entries alone.
 -- Assumes nothing.
-use Rattle.std.specs.Prelude.{ℕ, zero, suc, ◌+◌, ◌*◌, ◌-◌, ◌≤◌, ◌<◌, List}
-use Rattle.numbers.specs.Choice.{if◌then◌else◌, ◌≡ᵇ◌, ◌<ᵇ◌, ◌≤ᵇ◌}
+use Rattle.std.specs.Prelude.{ℕ, zero, suc, ◌+◌, ◌*◌, ◌-◌, ◌≤◌, ◌<◌, List, if◌then◌else◌}
+use Rattle.numbers.specs.Choice.{◌≡ᵇ◌, ◌<ᵇ◌, ◌≤ᵇ◌}
 use Rattle.numbers.specs.Counts.{count_at}
 use Rattle.image.specs.declared.header.Header.{Header}
 use Rattle.transfer.specs.declared.Moved.{Moved}

@@ -1,6 +1,5 @@
 // The entries of an index, four bytes each.
-ghost use Rattle.std.specs.Prelude.{◌≡◌, ◌+◌, ◌*◌, ◌-◌, ◌<◌, ◌≤◌, length, replicate};
-ghost use Rattle.numbers.specs.Choice.{if◌then◌else◌};
+ghost use Rattle.std.specs.Prelude.{◌≡◌, ◌+◌, ◌*◌, ◌-◌, ◌<◌, ◌≤◌, length, replicate, if◌then◌else◌};
 ghost use Rattle.numbers.specs.Counts.{put_count};
 ghost use Rattle.numbers.specs.Over.{over};
 ghost use Rattle.index.specs.Entries.{marks_from, no_filemark, entry_bytes};

@@ -1,7 +1,7 @@
 -- Flag bits in a byte, each by its weight: 1 for bit 0, 2 for bit 1, 4 for bit 2, 8 for bit 3, 16 for bit 4.
 -- Assumes nothing.
-use Rattle.std.specs.Prelude.{ℕ, ◌/◌, ◌%◌, Bool}
-use Rattle.numbers.specs.Choice.{if◌then◌else◌, ◌≡ᵇ◌}
+use Rattle.std.specs.Prelude.{ℕ, ◌/◌, ◌%◌, Bool, if◌then◌else◌}
+use Rattle.numbers.specs.Choice.{◌≡ᵇ◌}
 
 -- "A flag bit is true where it is 1."
 abbrev pub is_set : ℕ → ℕ → Bool

@@ -1,5 +1,6 @@
 -- The class of each command; a table of classes is held to its list of commands by one computed test, for any list.
 -- Assumes nothing.
+use Rattle.std.specs.Prelude.{if◌then◌else◌}
 use Prim.Native.Nat.{ℕ, ◌<◌}
 use mathlib.Core.Path.{◌≡◌, refl, sym, ap, ◌∙◌}
 use mathlib.Core.List.{List, [], ◌∷◌}
@@ -7,7 +8,6 @@ use mathlib.Core.Bool.{Bool, true, false, ◌&&◌}
 use lib.Dec.{T, eqb, eqb→eq}
 use lib.ListN.{length, get_or}
 use borrow.Author.Tests.{eqb-true}
-use Rattle.numbers.specs.Choice.{if◌then◌else◌}
 use Rattle.numbers.proofs.Cases.{test, never, and_l, and_r}
 use Rattle.numbers.proofs.TableRule.{every, at}
 use Rattle.opcodes.specs.declared.Command.{Command}

@@ -1,7 +1,7 @@
 -- The commands of a packet device, each under its first byte; every other first byte is unknown.
 -- Assumes nothing.
-use Rattle.std.specs.Prelude.{ℕ, List, [], ◌∷◌}
-use Rattle.numbers.specs.Choice.{if◌then◌else◌, ◌≡ᵇ◌}
+use Rattle.std.specs.Prelude.{ℕ, List, [], ◌∷◌, if◌then◌else◌}
+use Rattle.numbers.specs.Choice.{◌≡ᵇ◌}
 use Rattle.opcodes.specs.declared.Command.{Command}
 use Rattle.opcodes.specs.declared.Command.TheVariants.{Unknown, TestUnitReady, Rewind, RequestSense, Read, Write, WriteFilemarks, Space}
 use Rattle.opcodes.specs.declared.Command.TheVariants.{Inquiry, ModeSelect, ModeSense, LoadUnload, Locate, ReadPosition, PreventAllow}

@@ -1,5 +1,6 @@
 -- The lock through a packet, of any device that has it.
 -- Assumes nothing.
+use Rattle.std.specs.Prelude.{if◌then◌else◌}
 use Prim.Native.Nat.{ℕ, ◌+◌}
 use native.Mathlib.Omega.{arith}
 use mathlib.Core.Bool.{Bool, true, false, not}
@@ -7,7 +8,6 @@ use mathlib.Core.List.{List}
 use mathlib.Core.Path.{◌≡◌, refl, ap, ◌∙◌}
 use borrow.Author.Tests.{le-ltb}
 use lib.ListN.{length, get_or}
-use Rattle.numbers.specs.Choice.{if◌then◌else◌}
 use Rattle.numbers.proofs.Cases.{never}
 use Rattle.image.specs.declared.header.Header.{Header}
 use Rattle.image.specs.Header.{fields_of}

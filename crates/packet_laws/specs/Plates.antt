@@ -1,7 +1,7 @@
 -- What plates of any packet device are made of: an image, a record, a packet, and what must come; and the plates of 02, A2, A6 and A8.
 -- Assumes nothing.
-use Rattle.std.specs.Prelude.{ℕ, ◌*◌, Bool, true, false, not, ◌&&◌, List, [], ◌∷◌, ◌++◌, ◌≡◌, replicate, set, get_or}
-use Rattle.numbers.specs.Choice.{if◌then◌else◌, ◌≡ᵇ◌}
+use Rattle.std.specs.Prelude.{ℕ, ◌*◌, Bool, true, false, not, ◌&&◌, List, [], ◌∷◌, ◌++◌, ◌≡◌, replicate, set, get_or, if◌then◌else◌}
+use Rattle.numbers.specs.Choice.{◌≡ᵇ◌}
 use Rattle.numbers.specs.Counts.{count_bytes}
 use Rattle.numbers.specs.Over.{part}
 use Rattle.numbers.specs.Same.{same}

@@ -1,8 +1,7 @@
 -- What every packet device promises, one named type each; proofs/ proves them of any device whose work refuses nothing, the fifth where it keeps the speed,
 -- the sixth where its READ counts the marked blocks, the last two where it has a lock.
 -- Assumes nothing.
-use Rattle.std.specs.Prelude.{ℕ, ◌+◌, Bool, true, false, List, ◌↔◌, ◌≡◌, length, get_or}
-use Rattle.numbers.specs.Choice.{if◌then◌else◌}
+use Rattle.std.specs.Prelude.{ℕ, ◌+◌, Bool, true, false, List, ◌↔◌, ◌≡◌, length, get_or, if◌then◌else◌}
 use Rattle.numbers.specs.Over.{part}
 use Rattle.image.specs.Header.{fields_of}
 use Rattle.opcodes.specs.declared.Command.TheVariants.{Read, LoadUnload, PreventAllow}

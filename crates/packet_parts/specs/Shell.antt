@@ -1,7 +1,7 @@
 -- "Packet order: 1, 2, 3, attention, opcode, fields, not ready, protection, 4, list contents, the work.", for any packet device.
 -- Assumes nothing.
-use Rattle.std.specs.Prelude.{ℕ, Bool, not, List, length}
-use Rattle.numbers.specs.Choice.{if◌then◌else◌, ◌≡ᵇ◌}
+use Rattle.std.specs.Prelude.{ℕ, Bool, not, List, length, if◌then◌else◌}
+use Rattle.numbers.specs.Choice.{◌≡ᵇ◌}
 use Rattle.image.specs.declared.header.Header.{Header}
 use Rattle.image.specs.declared.header.Judged.TheVariants.{Broken}
 use Rattle.image.specs.Header.{fields_of, refusal_of}

@@ -1,7 +1,7 @@
 -- What is judged before the work: "attention, opcode, fields, not ready, protection, 4"; 02, A8: "53/02 stands after the fields check of 1Bh".
 -- Assumes nothing.
-use Rattle.std.specs.Prelude.{ℕ, Bool, true, false, not, ◌&&◌, ◌||◌}
-use Rattle.numbers.specs.Choice.{if◌then◌else◌, ◌≡ᵇ◌, ◌<ᵇ◌}
+use Rattle.std.specs.Prelude.{ℕ, Bool, true, false, not, ◌&&◌, ◌||◌, if◌then◌else◌}
+use Rattle.numbers.specs.Choice.{◌≡ᵇ◌, ◌<ᵇ◌}
 use Rattle.image.specs.declared.header.Header.{Header}
 use Rattle.packet_state.specs.declared.state.Attention.{Attention}
 use Rattle.packet_state.specs.declared.state.Attention.TheVariants.{Nothing, MediumChanged, Reset}

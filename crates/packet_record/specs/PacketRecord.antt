@@ -1,7 +1,7 @@
 -- The packet drive's record and answer in bytes. Numbers are big-endian; reserved bits and bytes are ignored and written as 0.
 -- Assumes nothing.
-use Rattle.std.specs.Prelude.{ℕ, ◌+◌, List, ◌∷◌, ◌++◌, get_or}
-use Rattle.numbers.specs.Choice.{if◌then◌else◌, ◌≡ᵇ◌}
+use Rattle.std.specs.Prelude.{ℕ, ◌+◌, List, ◌∷◌, ◌++◌, get_or, if◌then◌else◌}
+use Rattle.numbers.specs.Choice.{◌≡ᵇ◌}
 use Rattle.numbers.specs.Counts.{count_at, count_bytes}
 use Rattle.packet_state.specs.declared.state.Answer.{Answer}
 use Rattle.packet_state.specs.declared.state.Attention.{Attention}

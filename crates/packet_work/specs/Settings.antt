@@ -1,7 +1,7 @@
 -- 15h with a list of 32 bytes, 1Bh and 1Eh.
 -- Assumes nothing.
-use Rattle.std.specs.Prelude.{ℕ, ◌+◌, Bool, not, ◌&&◌, List, get_or}
-use Rattle.numbers.specs.Choice.{if◌then◌else◌, ◌≡ᵇ◌}
+use Rattle.std.specs.Prelude.{ℕ, ◌+◌, Bool, not, ◌&&◌, List, get_or, if◌then◌else◌}
+use Rattle.numbers.specs.Choice.{◌≡ᵇ◌}
 use Rattle.numbers.specs.Counts.{count_at}
 use Rattle.numbers.specs.Member.{is_in}
 use Rattle.packet_state.specs.declared.state.Ending.TheVariants.{Good, Check}

@@ -1,7 +1,7 @@
 -- Step 2 of a train: an argument.
 -- Assumes nothing.
-use Rattle.std.specs.Prelude.{ℕ, ◌+◌, ◌||◌}
-use Rattle.numbers.specs.Choice.{if◌then◌else◌, ◌≡ᵇ◌, ◌<ᵇ◌}
+use Rattle.std.specs.Prelude.{ℕ, ◌+◌, ◌||◌, if◌then◌else◌}
+use Rattle.numbers.specs.Choice.{◌≡ᵇ◌, ◌<ᵇ◌}
 use Rattle.pulse_codes.specs.declared.arguments.Nibble.{Nibble}
 use Rattle.pulse_codes.specs.declared.arguments.Nibble.TheVariants.{Value, OutOfRange}
 use Rattle.pulse_codes.specs.declared.arguments.Waiting.{Waiting}

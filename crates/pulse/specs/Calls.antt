@@ -1,7 +1,7 @@
 -- The public calls, with their refusals. 01: "Pulse order: 8, then 7 or 5, then 6."
 -- Assumes nothing.
-use Rattle.std.specs.Prelude.{ℕ, false, not, ◌&&◌, ◌≡◌}
-use Rattle.numbers.specs.Choice.{if◌then◌else◌, ◌≡ᵇ◌, ◌≤ᵇ◌}
+use Rattle.std.specs.Prelude.{ℕ, false, not, ◌&&◌, ◌≡◌, if◌then◌else◌}
+use Rattle.numbers.specs.Choice.{◌≡ᵇ◌, ◌≤ᵇ◌}
 use Rattle.pulse_parts.specs.declared.cartridge.Cartridge.{Cartridge}
 use Rattle.pulse.specs.declared.calls.Step.{Step}
 use Rattle.pulse.specs.declared.calls.Waited.{Waited}

@@ -1,7 +1,7 @@
 -- Step 7 of a train: the other commands.
 -- Assumes nothing.
-use Rattle.std.specs.Prelude.{ℕ, not, ◌&&◌, ◌||◌}
-use Rattle.numbers.specs.Choice.{if◌then◌else◌, ◌≡ᵇ◌}
+use Rattle.std.specs.Prelude.{ℕ, not, ◌&&◌, ◌||◌, if◌then◌else◌}
+use Rattle.numbers.specs.Choice.{◌≡ᵇ◌}
 use Rattle.pulse_codes.specs.declared.arguments.Waiting.TheVariants.{For}
 use Rattle.pulse_codes.specs.Codes.{pause, stop_tape, logical_forward, physical_forward, physical_reverse, seek_load_point}
 use Rattle.pulse_codes.specs.Codes.{needs_cartridge, needs_reference, stops_motion}

@@ -1,7 +1,6 @@
 -- Insertion, removal, and time that passes.
 -- Assumes nothing.
-use Rattle.std.specs.Prelude.{ℕ, zero, suc}
-use Rattle.numbers.specs.Choice.{if◌then◌else◌}
+use Rattle.std.specs.Prelude.{ℕ, zero, suc, if◌then◌else◌}
 use Rattle.pulse_codes.specs.declared.arguments.Waiting.TheVariants.{Nothing}
 use Rattle.pulse_codes.specs.Errors.{cartridge_missing}
 use Rattle.pulse_parts.specs.declared.cartridge.Cartridge.{Cartridge}

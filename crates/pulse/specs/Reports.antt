@@ -1,7 +1,7 @@
 -- Steps 3 and 6 of a train: a train in an open report, and a report that opens.
 -- Assumes nothing.
-use Rattle.std.specs.Prelude.{ℕ, true, false, not, ◌&&◌}
-use Rattle.numbers.specs.Choice.{if◌then◌else◌, ◌≡ᵇ◌}
+use Rattle.std.specs.Prelude.{ℕ, true, false, not, ◌&&◌, if◌then◌else◌}
+use Rattle.numbers.specs.Choice.{◌≡ᵇ◌}
 use Rattle.pulse_codes.specs.Codes.{report_next_bit, report_status, report_error, report_configuration, report_rom, report_vendor, ignored}
 use Rattle.pulse_codes.specs.Errors.{illegal_in_report, no_error}
 use Rattle.pulse_parts.specs.declared.reports.Report.{Report}

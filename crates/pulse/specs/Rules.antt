@@ -1,7 +1,7 @@
 -- 01, "Record rules (8)", in its order.
 -- Assumes nothing.
-use Rattle.std.specs.Prelude.{ℕ, Bool, not, ◌&&◌, ◌||◌}
-use Rattle.numbers.specs.Choice.{if◌then◌else◌, ◌≡ᵇ◌, ◌<ᵇ◌, ◌≤ᵇ◌}
+use Rattle.std.specs.Prelude.{ℕ, Bool, not, ◌&&◌, ◌||◌, if◌then◌else◌}
+use Rattle.numbers.specs.Choice.{◌≡ᵇ◌, ◌<ᵇ◌, ◌≤ᵇ◌}
 use Rattle.pulse_codes.specs.Arguments.{highest_rate, waiting_fits}
 use Rattle.pulse_codes.specs.Errors.{admitted}
 use Rattle.pulse_parts.specs.declared.cartridge.Cartridge.{Cartridge}

@@ -1,7 +1,7 @@
 -- A train of n pulses: its seven steps, in 01's order.
 -- Assumes nothing.
-use Rattle.std.specs.Prelude.{ℕ, true, false, not}
-use Rattle.numbers.specs.Choice.{if◌then◌else◌, ◌≡ᵇ◌, ◌<ᵇ◌}
+use Rattle.std.specs.Prelude.{ℕ, true, false, not, if◌then◌else◌}
+use Rattle.numbers.specs.Choice.{◌≡ᵇ◌, ◌<ᵇ◌}
 use Rattle.pulse_codes.specs.Arguments.{is_waiting}
 use Rattle.pulse_codes.specs.Codes.{soft_reset, report_next_bit, report_vendor, supported, is_report}
 use Rattle.pulse_codes.specs.Errors.{software_reset, undefined_command}

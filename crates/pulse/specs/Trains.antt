@@ -1,7 +1,7 @@
 -- A list of trains in one call.
 -- Assumes nothing.
-use Rattle.std.specs.Prelude.{ℕ, Bool, not, List, [], ◌∷◌, ◌≡◌, length}
-use Rattle.numbers.specs.Choice.{if◌then◌else◌, ◌<ᵇ◌}
+use Rattle.std.specs.Prelude.{ℕ, Bool, not, List, [], ◌∷◌, ◌≡◌, length, if◌then◌else◌}
+use Rattle.numbers.specs.Choice.{◌<ᵇ◌}
 use Rattle.numbers.specs.Flags.{weight_of}
 use Rattle.numbers.specs.Member.{is_in}
 use Rattle.numbers.specs.Over.{over}

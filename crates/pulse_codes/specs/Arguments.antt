@@ -1,7 +1,7 @@
 -- The arguments of a code.
 -- Assumes nothing.
-use Rattle.std.specs.Prelude.{ℕ, ◌+◌, ◌-◌, ◌*◌, ◌%◌, Bool, true, false, not, ◌&&◌, ◌||◌}
-use Rattle.numbers.specs.Choice.{if◌then◌else◌, ◌≡ᵇ◌, ◌<ᵇ◌, ◌≤ᵇ◌}
+use Rattle.std.specs.Prelude.{ℕ, ◌+◌, ◌-◌, ◌*◌, ◌%◌, Bool, true, false, not, ◌&&◌, ◌||◌, if◌then◌else◌}
+use Rattle.numbers.specs.Choice.{◌≡ᵇ◌, ◌<ᵇ◌, ◌≤ᵇ◌}
 use Rattle.pulse_codes.specs.Codes.{seek_track, select_rate, skip_reverse, skip_forward, skip_extended_reverse, skip_extended_forward, is_skip}
 use Rattle.pulse_codes.specs.declared.arguments.Nibble.{Nibble}
 use Rattle.pulse_codes.specs.declared.arguments.Nibble.TheVariants.{Value, OutOfRange}

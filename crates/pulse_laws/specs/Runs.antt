@@ -1,8 +1,8 @@
 -- Calls one after the other, and the measures that the demands speak of.
 -- Assumes nothing.
-use Rattle.std.specs.Prelude.{ℕ, zero, suc, ◌+◌, ◌-◌, ◌*◌, ◌/◌, ◌%◌, min, max, Bool, true, false, not, ◌&&◌, ◌||◌}
+use Rattle.std.specs.Prelude.{ℕ, zero, suc, ◌+◌, ◌-◌, ◌*◌, ◌/◌, ◌%◌, min, max, Bool, true, false, not, ◌&&◌, ◌||◌, if◌then◌else◌}
 use Rattle.std.specs.Prelude.{List, [], ◌∷◌, ◌++◌, ◌↔◌, ◌≢◌, ◌≡◌, replicate}
-use Rattle.numbers.specs.Choice.{◌≡ᵇ◌, ◌≤ᵇ◌, if◌then◌else◌}
+use Rattle.numbers.specs.Choice.{◌≡ᵇ◌, ◌≤ᵇ◌}
 use Rattle.pulse_codes.specs.Arguments.{is_waiting}
 use Rattle.pulse_codes.specs.Codes.{ignored, is_report, report_error, report_next_bit, report_status, soft_reset}
 use Rattle.pulse_parts.specs.declared.cartridge.Cartridge.{Cartridge}

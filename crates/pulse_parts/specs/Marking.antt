@@ -1,7 +1,6 @@
 -- What the drive remembers of the cartridge.
 -- Assumes nothing.
-use Rattle.std.specs.Prelude.{ℕ, Bool, true, false, not, ◌&&◌}
-use Rattle.numbers.specs.Choice.{if◌then◌else◌}
+use Rattle.std.specs.Prelude.{ℕ, Bool, true, false, not, ◌&&◌, if◌then◌else◌}
 use Rattle.pulse_codes.specs.Codes.{needs_cartridge, needs_reference}
 use Rattle.pulse_codes.specs.Errors.{no_error, cartridge_missing, new_cartridge_pending, not_referenced}
 use Rattle.pulse_parts.specs.declared.marks.Marks.{Marks}

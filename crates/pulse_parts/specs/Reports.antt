@@ -1,7 +1,7 @@
 -- A report's items, and the bits of each report (000, table 2c).
 -- Assumes nothing.
-use Rattle.std.specs.Prelude.{ℕ, ◌+◌, ◌-◌, ◌*◌, ◌/◌, ◌%◌, Bool, false, not, ◌&&◌, ◌||◌}
-use Rattle.numbers.specs.Choice.{if◌then◌else◌, ◌≡ᵇ◌, ◌<ᵇ◌, ◌≤ᵇ◌}
+use Rattle.std.specs.Prelude.{ℕ, ◌+◌, ◌-◌, ◌*◌, ◌/◌, ◌%◌, Bool, false, not, ◌&&◌, ◌||◌, if◌then◌else◌}
+use Rattle.numbers.specs.Choice.{◌≡ᵇ◌, ◌<ᵇ◌, ◌≤ᵇ◌}
 use Rattle.numbers.specs.Flags.{weight_of}
 use Rattle.pulse_parts.specs.Heads.{is_still}
 use Rattle.pulse_parts.specs.Faults.{error_held}

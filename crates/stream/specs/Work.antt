@@ -1,7 +1,7 @@
 -- The work of each command, once nothing before it ended the packet.
 -- Assumes nothing.
-use Rattle.std.specs.Prelude.{ℕ, ◌-◌, ◌^◌, ◌<◌, ◌≤◌, not, ◌&&◌, List, ◌≡◌}
-use Rattle.numbers.specs.Choice.{if◌then◌else◌, ◌≡ᵇ◌, ◌<ᵇ◌, ◌≤ᵇ◌}
+use Rattle.std.specs.Prelude.{ℕ, ◌-◌, ◌^◌, ◌<◌, ◌≤◌, not, ◌&&◌, List, ◌≡◌, if◌then◌else◌}
+use Rattle.numbers.specs.Choice.{◌≡ᵇ◌, ◌<ᵇ◌, ◌≤ᵇ◌}
 use Rattle.image.specs.declared.header.Header.{Header}
 use Rattle.image.specs.declared.header.Judged.TheVariants.{Good as GoodHeader}
 use Rattle.image.specs.Elements.{record_to}

@@ -1,5 +1,6 @@
 -- What an accepted packet leaves: one case split over the commands.
 -- Assumes nothing.
+use Rattle.std.specs.Prelude.{if◌then◌else◌}
 use Prim.Native.Nat.{ℕ, ◌+◌, ◌*◌, ◌-◌, ◌^◌, ◌≤◌, ◌<◌, min}
 use native.Mathlib.Nat.{le_refl, mul-le-mul_left}
 use native.Mathlib.Omega.{arith}
@@ -10,7 +11,6 @@ use mathlib.Core.Path.{◌≡◌, refl, sym, ◌∙◌}
 use borrow.Author.Tests.{leb-true, ltb-false, eqb-true, not-false}
 use lib.Dec.{leb, ltb, eqb}
 use lib.ListN.{length, get_or}
-use Rattle.numbers.specs.Choice.{if◌then◌else◌}
 use Rattle.numbers.specs.Member.{is_in}
 use Rattle.numbers.proofs.Cases.{either}
 use Rattle.numbers.proofs.OverLaws.{over_length, over_above}

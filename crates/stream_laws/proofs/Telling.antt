@@ -1,5 +1,6 @@
 -- What READ, WRITE and WRITE FILEMARK tell: why they stopped, where the drive then stands, how many bytes were moved.
 -- Assumes nothing.
+use Rattle.std.specs.Prelude.{if◌then◌else◌}
 use Prim.Native.Nat.{ℕ, ◌+◌, ◌-◌, ◌≤◌}
 use native.Mathlib.Omega.{arith}
 use mathlib.Core.Bool.{Bool, true, false, ◌&&◌}
@@ -7,7 +8,6 @@ use mathlib.Core.List.{List}
 use mathlib.Core.Path.{◌≡◌, refl}
 use borrow.Author.Tests.{le-leb, leb-true, leb-false, ltb-true, ltb-false}
 use lib.Dec.{leb, ltb}
-use Rattle.numbers.specs.Choice.{if◌then◌else◌}
 use Rattle.image.specs.declared.header.Header.{Header}
 use Rattle.image.specs.Header.{fields_of}
 use Rattle.image.proofs.HeaderLaws.{good_header, sound}

@@ -1,7 +1,7 @@
 -- 02, A3, "End of data near the end of tape": the drive as it was before, and what 8/00/05 carries now.
 -- Assumes nothing.
-use Rattle.std.specs.Prelude.{ℕ, Bool, true, false, ◌&&◌, List}
-use Rattle.numbers.specs.Choice.{if◌then◌else◌, ◌≡ᵇ◌}
+use Rattle.std.specs.Prelude.{ℕ, Bool, true, false, ◌&&◌, List, if◌then◌else◌}
+use Rattle.numbers.specs.Choice.{◌≡ᵇ◌}
 use Rattle.image.specs.declared.header.Header.{Header}
 use Rattle.image.specs.Header.{with_warning}
 use Rattle.opcodes.specs.declared.Command.{Command}

@@ -1,7 +1,7 @@
 -- What the stream device's commands take from the twelve bytes of a packet.
 -- Assumes nothing.
-use Rattle.std.specs.Prelude.{ℕ, ◌-◌, ◌%◌, ◌^◌, Bool, List, get_or}
-use Rattle.numbers.specs.Choice.{if◌then◌else◌, ◌≤ᵇ◌}
+use Rattle.std.specs.Prelude.{ℕ, ◌-◌, ◌%◌, ◌^◌, Bool, List, get_or, if◌then◌else◌}
+use Rattle.numbers.specs.Choice.{◌≤ᵇ◌}
 use Rattle.numbers.specs.Flags.{is_set}
 use Rattle.opcodes.specs.Commands.{stream_command}
 use Rattle.packet_parts.specs.declared.requests.Request.{Request}

@@ -1,6 +1,6 @@
 // The bytes that 1Ah and 34h give, where the stream device has its own.
-ghost use Rattle.std.specs.Prelude.{◌≡◌, ◌%◌, ◌≤◌};
-ghost use Rattle.numbers.specs.Choice.{if◌then◌else◌, ◌≡ᵇ◌};
+ghost use Rattle.std.specs.Prelude.{◌≡◌, ◌%◌, ◌≤◌, if◌then◌else◌};
+ghost use Rattle.numbers.specs.Choice.{◌≡ᵇ◌};
 ghost use Rattle.packet_parts.specs.Replies.{device_page, short_list, full_list};
 ghost use Rattle.stream_parts.specs.Replies.{position_bytes};
 

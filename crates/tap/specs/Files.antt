@@ -1,7 +1,7 @@
 -- 02, A7: the elements of a file, and a file of elements.
 -- Assumes nothing.
-use Rattle.std.specs.Prelude.{ℕ, zero, suc, ◌+◌, ◌%◌, Bool, List, [], ◌∷◌, ◌++◌, ◌≡◌, length, replicate}
-use Rattle.numbers.specs.Choice.{if◌then◌else◌, ◌≡ᵇ◌}
+use Rattle.std.specs.Prelude.{ℕ, zero, suc, ◌+◌, ◌%◌, Bool, List, [], ◌∷◌, ◌++◌, ◌≡◌, length, replicate, if◌then◌else◌}
+use Rattle.numbers.specs.Choice.{◌≡ᵇ◌}
 use Rattle.numbers.specs.Flags.{weight_of}
 use Rattle.numbers.specs.Over.{part}
 use Rattle.numbers.specs.Words.{word_bytes}

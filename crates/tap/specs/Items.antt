@@ -1,7 +1,7 @@
 -- 02, A7: "a little-endian length of four bytes before and after each record, zero for a tape mark, FFFFFFFFh for end of medium."
 -- Assumes nothing.
-use Rattle.std.specs.Prelude.{ℕ, ◌+◌, ◌-◌, ◌%◌, ◌^◌, Bool, List, length}
-use Rattle.numbers.specs.Choice.{if◌then◌else◌, ◌≡ᵇ◌, ◌<ᵇ◌, ◌≤ᵇ◌}
+use Rattle.std.specs.Prelude.{ℕ, ◌+◌, ◌-◌, ◌%◌, ◌^◌, Bool, List, length, if◌then◌else◌}
+use Rattle.numbers.specs.Choice.{◌≡ᵇ◌, ◌<ᵇ◌, ◌≤ᵇ◌}
 use Rattle.numbers.specs.Words.{word_at}
 use Rattle.tap.specs.declared.items.Item.{Item}
 use Rattle.tap.specs.declared.items.Item.TheVariants.{Ends, Mark, Record, Cut}

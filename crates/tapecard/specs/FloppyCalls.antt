@@ -1,7 +1,7 @@
 -- 02, A1: everything that a call of the floppy tape device leaves.
 -- Assumes nothing.
-use Rattle.std.specs.Prelude.{ℕ, List, ◌≡◌}
-use Rattle.numbers.specs.Choice.{if◌then◌else◌, ◌≡ᵇ◌}
+use Rattle.std.specs.Prelude.{ℕ, List, ◌≡◌, if◌then◌else◌}
+use Rattle.numbers.specs.Choice.{◌≡ᵇ◌}
 use Rattle.packet_state.specs.declared.state.Answer.{Answer}
 use Rattle.packet_parts.specs.Answers.{Left}
 use Rattle.packet_record.specs.PacketRecord.{encode_answer}

@@ -1,7 +1,7 @@
 -- Everything that a call of the packet drive leaves.
 -- Assumes nothing.
-use Rattle.std.specs.Prelude.{ℕ, List, ◌≡◌}
-use Rattle.numbers.specs.Choice.{if◌then◌else◌, ◌≡ᵇ◌}
+use Rattle.std.specs.Prelude.{ℕ, List, ◌≡◌, if◌then◌else◌}
+use Rattle.numbers.specs.Choice.{◌≡ᵇ◌}
 use Rattle.packet_state.specs.declared.state.Outcome.{Outcome}
 use Rattle.packet_state.specs.declared.state.State.{State}
 use Rattle.packet_state.specs.States.{fresh_state, changed_state}

@@ -1,5 +1,6 @@
 -- READ, one element at a time: what is left to do gives what the whole gives.
 -- Assumes nothing.
+use Rattle.std.specs.Prelude.{if◌then◌else◌}
 use mathlib.Core.Path.{◌≡◌, refl, sym, ap, ◌∙◌}
 use mathlib.Core.Bool.{Bool, true, false}
 use mathlib.Core.List.{List}
@@ -11,7 +12,6 @@ use borrow.Author.Tests.{le-leb, lt-leb, leb-true, leb-false}
 use lib.Dec.{leb}
 use borrow.Rule.Slice.PartMut.{mid_of, put_mid}
 use lib.ListN.{length, get_or, length-take}
-use Rattle.numbers.specs.Choice.{if◌then◌else◌}
 use Rattle.numbers.specs.Over.{over, part}
 use Rattle.numbers.proofs.OverLaws.{part_length, part_same, over_length, over_below, over_above, over_part, copied_over}
 use Rattle.image.specs.declared.elements.Kind.{Kind}

@@ -1,5 +1,6 @@
 -- Images that are alike below an end are read, passed over and written alike, and stay alike.
 -- Assumes nothing.
+use Rattle.std.specs.Prelude.{if◌then◌else◌}
 use Prim.Native.Nat.{ℕ, zero, suc, ◌+◌, ◌*◌, ◌≤◌, ◌<◌}
 use native.Mathlib.Omega.{arith}
 use mathlib.Core.Bool.{Bool, true, false, false≢true}
@@ -9,7 +10,6 @@ use mathlib.Core.Path.{◌≡◌, refl, sym, ap, ◌∙◌}
 use borrow.Author.Tests.{leb-false, eqb-true, eqb-false}
 use lib.Dec.{leb, eqb}
 use lib.ListN.{length}
-use Rattle.numbers.specs.Choice.{if◌then◌else◌}
 use Rattle.numbers.specs.Over.{over, part}
 use Rattle.numbers.proofs.OverLaws.{part_length}
 use Rattle.image.specs.declared.header.Header.{Header}

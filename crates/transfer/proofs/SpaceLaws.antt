@@ -1,5 +1,6 @@
 -- SPACE, one element at a time: what is left to do gives what the whole gives.
 -- Assumes nothing.
+use Rattle.std.specs.Prelude.{if◌then◌else◌}
 use mathlib.Core.Path.{◌≡◌, refl}
 use mathlib.Core.Bool.{Bool, true, false}
 use mathlib.Core.List.{List}
@@ -9,7 +10,6 @@ use native.Mathlib.Numerals.{sub-one}
 use native.Mathlib.Omega.{arith}
 use borrow.Author.Tests.{le-leb, lt-leb, ne_eqb, leb-true, leb-false}
 use lib.Dec.{leb, eqb}
-use Rattle.numbers.specs.Choice.{if◌then◌else◌}
 use Rattle.image.specs.declared.elements.Kind.{Kind}
 use Rattle.image.specs.declared.elements.Kind.TheVariants.{Data, Filemark, Unreadable, Marked}
 use Rattle.image.specs.Elements.{is_filemark, kind_at}

@@ -1,7 +1,6 @@
 -- 02, A6: "a READ's answer also says how many of the blocks copied were marked".
 -- Assumes nothing.
-use Rattle.std.specs.Prelude.{ℕ, zero, suc, ◌+◌, List}
-use Rattle.numbers.specs.Choice.{if◌then◌else◌}
+use Rattle.std.specs.Prelude.{ℕ, zero, suc, ◌+◌, List, if◌then◌else◌}
 use Rattle.image.specs.declared.elements.Kind.{Kind}
 use Rattle.image.specs.Elements.{is_marked, kind_at}
 

@@ -1,7 +1,7 @@
 -- 01, 08h READ, one element at a time: "Data: copied, P + 1. Filemark: P + 1, stop .. Unreadable: P + 1, stop .. P = U: stop".
 -- Assumes nothing.
-use Rattle.std.specs.Prelude.{ℕ, zero, suc, ◌+◌, List}
-use Rattle.numbers.specs.Choice.{if◌then◌else◌, ◌≤ᵇ◌}
+use Rattle.std.specs.Prelude.{ℕ, zero, suc, ◌+◌, List, if◌then◌else◌}
+use Rattle.numbers.specs.Choice.{◌≤ᵇ◌}
 use Rattle.numbers.specs.Over.{over}
 use Rattle.image.specs.declared.elements.Kind.{Kind}
 use Rattle.image.specs.Elements.{holds_data, is_filemark, kind_at, block_at}

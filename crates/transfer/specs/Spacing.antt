@@ -1,8 +1,8 @@
 -- 01, 11h SPACE: "Code 0 passes blocks, unreadable too; a filemark is crossed and stops it. Code 1 passes filemarks, ending beyond the last, on the
 -- beginning side when going back." The end of data and the beginning stop both.
 -- Assumes nothing.
-use Rattle.std.specs.Prelude.{ℕ, zero, suc, ◌+◌, ◌-◌, List}
-use Rattle.numbers.specs.Choice.{if◌then◌else◌, ◌≤ᵇ◌, ◌≡ᵇ◌}
+use Rattle.std.specs.Prelude.{ℕ, zero, suc, ◌+◌, ◌-◌, List, if◌then◌else◌}
+use Rattle.numbers.specs.Choice.{◌≤ᵇ◌, ◌≡ᵇ◌}
 use Rattle.image.specs.declared.elements.Kind.{Kind}
 use Rattle.image.specs.Elements.{is_filemark, kind_at}
 use Rattle.transfer.specs.declared.Moved.{Moved}

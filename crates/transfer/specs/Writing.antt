@@ -1,7 +1,7 @@
 -- 01, 0Ah WRITE and 10h WRITE FILEMARK, one element at a time: "At P = C: stop .. Else bytes and kind 1 stored, P + 1". A run never touches the header.
 -- Assumes nothing.
-use Rattle.std.specs.Prelude.{ℕ, zero, suc, ◌+◌, List}
-use Rattle.numbers.specs.Choice.{if◌then◌else◌, ◌≤ᵇ◌}
+use Rattle.std.specs.Prelude.{ℕ, zero, suc, ◌+◌, List, if◌then◌else◌}
+use Rattle.numbers.specs.Choice.{◌≤ᵇ◌}
 use Rattle.numbers.specs.Over.{part}
 use Rattle.image.specs.Elements.{lay_block, lay_mark}
 use Rattle.transfer.specs.declared.Moved.{Moved}
