@@ -38,7 +38,7 @@ use Rattle.card_laws.specs.Promises.{Bytes, FitsTape, FloppyStaysBytes}
 use Rattle.card_laws.proofs.BytesKept.{All, bytes_of_lem, count_all, flag_most, next, none}
 use Rattle.card_laws.proofs.CycleLaws.{decoded_tape_fits}
 use Rattle.card_laws.proofs.FloppyFollowing.{full_sound, reset_fits, tape_left}
-use Rattle.card_laws.proofs.PacketBytes.{Fits, alike, answer_bytes, answer-fits, ending_of, ends_fits, fits, fits_of, low, low_ending, sense_low}
+use Rattle.card_laws.proofs.PacketBytes.{Fits, alike, answer_bytes, answer-fits, ending_of_lem, ends_fits, fits, fits_of, low, low_ending, sense_low}
 use Rattle.card_laws.proofs.PacketBytes.{state_all, told_of}
 
 -- ---- every number that a packet tells, and both codes of every sense that it leaves, stand in a byte each
@@ -53,7 +53,7 @@ read_low AtBeginning left = refl
 
 write_low : (left : ℕ) → low_ending (write_ending left) ≡ true
 unfolding write_ending
-write_low left = simp (ending_of, alike)
+write_low left = simp (ending_of_lem, alike)
 
 work_fits : (c : Command) (s : List ℕ) (h : Header) (st : State) (t : Tape) (q : Request) (buf : List ℕ)
     → fits (record { answer = (work_of c s h st t q buf).answer; state = (work_of c s h st t q buf).state }) ≡ true

@@ -121,7 +121,7 @@ ended st e blocks bytes i k l = rw ends_is (record { information = i; blocks = k
 plain : (st : State) (bytes : ℕ) → bytes < 2 ^ 32 → Whole (ends st Good 0 bytes)
 plain st bytes l = ended st Good 0 bytes (omega arith) (omega arith) l
 
-select_whole : {h : Header} {st : State} {t tape : Tape} {list : List ℕ} {asked : ℕ} {out : Outcome} → asked < 256
+select_whole : {h : Header} {st : State} {t : Tape} {list : List ℕ} {tape : Tape} {asked : ℕ} {out : Outcome} → asked < 256
     → Selected h st t list asked out tape → Whole out
 select_whole l (speed-set e g) = plain _ _ (omega arith)
 select_whole l (speed-wrong e) = ended _ _ _ _ (omega arith) (omega arith) (omega arith)

@@ -37,7 +37,7 @@ use Rattle.packet_parts.specs.Requests.{packet_length}
 use Rattle.packet_parts.specs.Shell.{Device, carried_out, decided, answers_to}
 use Rattle.packet_parts.specs.Verdicts.{found_first, verdict_by}
 use Rattle.stream.specs.Packet.{stream_device, packet_step}
-use Rattle.stream.specs.Work.{ending_of_lem, locate_work, mark_work, read_ends, read_work, select_work, space_work, work_of}
+use Rattle.stream.specs.Work.{ending_of, locate_work, mark_work, read_ends, read_work, select_work, space_work, work_of}
 use Rattle.stream.specs.Work.{write_ending, write_ends, write_work}
 use Rattle.packet_work.specs.Settings.{load_work, lock_work, speed_work}
 use Rattle.packet_laws.specs.Words.{number_of}
@@ -88,8 +88,8 @@ pub ending_of_lem : (b : Bool) (x y : Ending) → low_ending (cond b x y) ≡ co
 ending_of_lem true x y = refl
 ending_of_lem false x y = refl
 
-ending_low : (h : Header) (stop : Stop) (left : ℕ) → low_ending (ending_of_lem h stop left) ≡ true
-unfolding ending_of_lem
+ending_low : (h : Header) (stop : Stop) (left : ℕ) → low_ending (ending_of h stop left) ≡ true
+unfolding ending_of
 ending_low h Full left = refl
 ending_low h AtFilemark left = refl
 ending_low h AtBadBlock left = refl
