@@ -2,7 +2,7 @@
  * The drive card: packet tape drives (a stream and a floppy device) and a pulse tape drive, proved, over byte records that the
  * caller keeps.
  *
- * Link target/staticlib/libtapecard.a, which `rt staticlib tapecard` makes (for x86-64). C99 and C++.
+ * Link target/staticlib/libtapecard.a, which `make archive` makes (for x86-64). C99 and C++.
  *
  * A caller must give three things, which no proof can see:
  * 1. Pointers that are valid for as many bytes as their length says, and valid also where that is 0. The length of `counts` is in

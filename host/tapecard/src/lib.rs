@@ -1,5 +1,5 @@
 //! README: the drive card's proved engines, a packet drive (two devices) and a pulse drive, as safe Rust types over the archive
-//! `libtapecard.a` (made by `rt staticlib tapecard`).
+//! `libtapecard.a` (made by `make archive`).
 //!
 //! [`packet`] answers 12-byte command packets over a lent cartridge image, as the stream device; [`floppy`] answers them as the
 //! floppy device, blocks by number. [`index`] is the stream device with an index of the filemarks beside the image. [`exchange`] writes
