@@ -255,7 +255,8 @@ mount_follows : (state image : List ℕ) (next : State) → next.position < 2 ^ 
 unfolding floppy_left mounted ends
 mount_follows state image next p v =
     either (λ (o : FloppyOutcome). decode_floppy (floppy_record state o.answer o.state) ≡ o.state) (not (is_full image))
-    (joined (refused (decode_floppy state).shared broken_image) (decode_floppy state).tape) (joined (ends next Good 0 0) (reset_tape (fields_of image).capacity))
+    (joined (refused (decode_floppy state).shared broken_image) (decode_floppy state).tape)
+    (joined (ends next Good 0 0) (reset_tape (fields_of image).capacity))
     (λ e. refl)
     (λ e.
     let g = full_sound image (not-false _ e) in

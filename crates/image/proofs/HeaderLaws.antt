@@ -177,7 +177,8 @@ pub block_kept : (kind : Kind) (end end' : ℕ) (s t : List ℕ) (h : Header) (i
 block_kept kind end end' s t h i bytes block g l k b =
     is_block_of kind (ap holds_data (sym block.1) ∙ block.0.holds) end' t h i bytes g l (k ∙ block.1) (b ∙ block.0.same)
 
-pub good_by : (s : List ℕ) (h : Header) → fields_of s ≡ h → Each (fixed_bytes s) → Each (field_ranges h) → Each (place_rules h (length s)) → header_of s ≡ Good h
+pub good_by : (s : List ℕ) (h : Header) → fields_of s ≡ h → Each (fixed_bytes s) → Each (field_ranges h) → Each (place_rules h (length s))
+    → header_of s ≡ Good h
 unfolding header_of keeps_header_rules
 good_by s h e f r p = rw (e, pass (fixed_bytes s) f, pass (field_ranges h) r, pass (place_rules h (length s)) p)
 

@@ -87,8 +87,8 @@ status_beside told = if same told (sense_of 0x70 0 0 0 0) then good_status else 
 abbrev pub marked_image : List ℕ
 marked_image = set (set (set (set (plate_image 0 4 (4 ∷ 1 ∷ 4 ∷ 3 ∷ [])) 36 0xa0) 548 0xb0) 1060 0xc0) 1572 0xd0
 
--- what is sent at a place; and what must come: blocks, how many of them marked, P, the kinds of the image, the first bytes of the four blocks of the buffer, and
--- those that 03h would give
+-- what is sent at a place; and what must come: blocks, how many of them marked, P, the kinds of the image, the first bytes of the four blocks of
+-- the buffer, and those that 03h would give
 pub record MarkedPlate : Type 0 where
   pub before : ℕ
   pub packet : List ℕ

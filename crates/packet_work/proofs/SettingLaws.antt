@@ -14,4 +14,6 @@ use Rattle.packet_work.specs.Settings.{list_speed, good_list}
 
 pub good_speed : (list : List ℕ) → good_list list ≡ true → is_in (list_speed list) speeds ≡ true
 unfolding good_list
-good_speed list e = (split (eqb (get_or list short_list 0) device_page && eqb (get_or list (short_list + 1) 0) device_page_length) (is_in (list_speed list) speeds) e).1
+good_speed list e =
+    let heads = eqb (get_or list short_list 0) device_page && eqb (get_or list (short_list + 1) 0) device_page_length in
+    (split heads (is_in (list_speed list) speeds) e).1

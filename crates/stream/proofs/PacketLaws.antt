@@ -27,7 +27,8 @@ use Rattle.stream.specs.Work.{work_of}
 -- ---- the ways of `decide`
 
 module _ (s : List ℕ) (h : Header) (st : State) (q : Request) (buf : List ℕ) (v : Verdict) (r : Outcome) where
-  pub was_refused : (n : ℕ) → v ≡ found_by stream_device h st q (length buf) → v ≡ Refuses n → r ≡ refused st n → done r s buf ≡ decided stream_device s h st q buf
+  pub was_refused : (n : ℕ) → v ≡ found_by stream_device h st q (length buf) → v ≡ Refuses n → r ≡ refused st n
+      → done r s buf ≡ decided stream_device s h st q buf
   unfolding decided carried_out
   was_refused n p e t = rw (← p, e, t)
 

@@ -37,7 +37,8 @@ use Rattle.transfer.specs.Reading.{read_from}
 use Rattle.stream_parts.specs.Requests.{request_of, space_code, to_end_of_data}
 use Rattle.stream_parts.specs.Warning.{past_warning}
 use Rattle.stream.specs.Packet.{stream_device, packet_step}
-use Rattle.stream.specs.Work.{ending_of, read_ends, read_work, write_ending, write_ends, write_work, mark_work, space_run, space_work, select_work, locate_work, work_of}
+use Rattle.stream.specs.Work.{ending_of, read_ends, read_work, write_ending, write_ends, write_work, mark_work, space_run, space_work}
+use Rattle.stream.specs.Work.{select_work, locate_work, work_of}
 use Rattle.stream_laws.specs.EndOfData.{asks_warning, seen_before, device_before, step_before, reads_or_spaces, blank_check, tells_end, carrying_eom}
 use Rattle.stream_laws.specs.Demands.{EndOfDataEom}
 
@@ -74,7 +75,9 @@ work_now Read s h st q buf =
     ended Read h (at_place st r.moved.place) _ _ _ _ _ s _ refl
 work_now Write s h st q buf = refl
 work_now WriteFilemarks s h st q buf = refl
-work_now Space s h st q buf = test (eqb (space_code q) to_end_of_data) (λ e. rw e) (λ e. rw e (spaced h (at_place st (space_run s h st.position (space_code q) q.count).place) _ _ s buf))
+work_now Space s h st q buf =
+    let after = at_place st (space_run s h st.position (space_code q) q.count).place in
+    test (eqb (space_code q) to_end_of_data) (λ e. rw e) (λ e. rw e (spaced h after _ _ s buf))
 work_now Inquiry s h st q buf = refl
 work_now ModeSelect s h st q buf = refl
 work_now ModeSense s h st q buf = refl

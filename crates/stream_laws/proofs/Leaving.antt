@@ -254,7 +254,8 @@ module _ (s : List ℕ) (st : State) (q : Request) (buf : List ℕ) (good : keep
   mode_length_lem : length (mode_bytes h st q) ≡ mode_length q
   mode_length_lem = by (has_page q)
     where
-      by : (a : Bool) → length (if a then mode_header h (full_list - 1) ++ mode_page h st else mode_header h (short_list - 1)) ≡ (if a then full_list else short_list)
+      by : (a : Bool) → length (if a then mode_header h (full_list - 1) ++ mode_page h st else mode_header h (short_list - 1))
+          ≡ (if a then full_list else short_list)
       by true = refl
       by false = refl
 

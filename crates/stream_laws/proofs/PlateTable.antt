@@ -33,7 +33,8 @@ plates_print = refl
 
 pub end_of_data_plates : EndOfDataPlates
 unfolding answers_to decided carried_out verdict_by found_first asked_by request_of request_under is_back magnitude keeps_record_rules stream_command
-    header_of keeps_header_rules fields_of all_hold is_in kind_of kind_at block_at stop_at read_from blocks_on marks_on ends ending_of read_ends read_work space_run
+    header_of keeps_header_rules fields_of all_hold is_in kind_of kind_at block_at stop_at read_from blocks_on marks_on ends ending_of read_ends read_work
+    space_run
     space_work locate_work work_of
 end_of_data_plates = refl
 
@@ -52,7 +53,8 @@ speed_plates =
 
 pub marked_plates_lem : MarkedPlates
 unfolding answers_to decided carried_out verdict_by found_first asked_by request_of request_under is_back magnitude keeps_record_rules stream_command
-    header_of keeps_header_rules fields_of all_hold is_in kind_of kind_at block_at lay_block record_to stop_at read_from marked_from blocks_on blocks_back marks_on lay_from
+    header_of keeps_header_rules fields_of all_hold is_in kind_of kind_at block_at lay_block record_to stop_at read_from marked_from blocks_on blocks_back
+    marks_on lay_from
     ends ending_of read_ends read_work write_ending write_ends write_work space_run space_work work_of
 marked_plates_lem = (refl, refl)
 

@@ -157,8 +157,8 @@ pub record GoodRead (s : List ℕ) (st : State) (n : ℕ) (buf : List ℕ) (x : 
   pub buf_length : length x.buf ≡ length buf
   pub buf_beyond : (i : ℕ) → bytes_of x ≤ i → get_or x.buf i 0 ≡ get_or buf i 0
 
--- all that 01 and 02, A6 ask of a WRITE or WRITE FILEMARK of N elements, of any drive: x is what it leaves. `Holds` says what element P + j is then, and `each` how
--- many bytes of the buffer it takes.
+-- all that 01 and 02, A6 ask of a WRITE or WRITE FILEMARK of N elements, of any drive: x is what it leaves. `Holds` says what element P + j is then, and
+-- `each` how many bytes of the buffer it takes.
 pub record GoodWrite (Holds : List ℕ → ℕ → Type 0) (each : ℕ) (s : List ℕ) (st : State) (n : ℕ) (buf : List ℕ) (x : Left State) : Type 0 where
   pub accepted : number_of x ≡ 0
   -- status, sense and new P go by the blocks, which are stored; "U = new P"; the bytes by the blocks

@@ -8,7 +8,8 @@ use Rattle.index.proofs.checking.compare_marks.Given as goal
 
 abbrev pub invariant-loop-at : goal.invariant-loop-at
 invariant-loop-at l =
-    Comparing l.image l.kinds l.end l.index (holds_entries l.index 0 (marks_from l.image l.kinds l.end 0)) (length (marks_from l.image l.kinds l.end 0)) l.at l.n
+    Comparing l.image l.kinds l.end l.index (holds_entries l.index 0 (marks_from l.image l.kinds l.end 0))
+    (length (marks_from l.image l.kinds l.end 0)) l.at l.n
 
 abbrev pub decreases-loop-at : goal.decreases-loop-at
 decreases-loop-at l = l.end - l.at

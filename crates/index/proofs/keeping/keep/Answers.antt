@@ -35,7 +35,12 @@ rewrite-requires c =
     let w = sound _ _ z.header in
     let p = stands _ _ _ _ _ [] b in
     record {
-      p_le_end = (omega (arith, z.reached), omega (arith, z.reached, z.size, w.recorded_within), g.capacity_most, omega (arith, z.size, g.blocks_after, g.all_within));
+      p_le_end = (
+        omega (arith, z.reached),
+        omega (arith, z.reached, z.size, w.recorded_within),
+        g.capacity_most,
+        omega (arith, z.size, g.blocks_after, g.all_within),
+      );
       capacity_in_bounds = b.room;
       below_first = first_at _ _ _ _ _ [] b _ p;
       below_first_2 = first_at _ _ _ _ _ [] b _ (le_refl _);
