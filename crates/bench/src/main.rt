@@ -54,7 +54,10 @@ fn send_all(rt: &impl Print, drive: Drive, bytes: &[u8]) -> io::Result<Drive> {
 
 fn send_chunk(rt: &impl Print, input: &mut impl Read, drive: Drive) -> io::Result<Chunk> {
     let mut bytes = [0u8; CHUNK];
-    let n = input.read(&mut bytes)?;
+    let n = match input.read(&mut bytes) {
+        Ok(n) => n,
+        Err(_) => 0, // an input that fails has ended
+    };
     if n == 0 {
         return Ok(Chunk { more: false, drive });
     }

@@ -7,11 +7,11 @@ mod parts; // parts.rt: the parts of a record
 mod script; // script.rt: a line of the script, taken apart
 
 use calls::Drive;
+use lines::input::read_full;
 use lines::line::line_end;
 use std::io;
-use std::io::Read;
 
-const MOST: u64 = 65536;
+const MOST: usize = 65536;
 
 // The lines one after the other; the drive goes through them.
 fn run(rt: &impl Print, script: &[u8], first: Drive) -> io::Result<()> {
@@ -26,7 +26,7 @@ fn run(rt: &impl Print, script: &[u8], first: Drive) -> io::Result<()> {
 }
 
 fn main(rt: HostRuntime) -> io::Result<()> {
-    let mut script = Vec::new(rt.alloc());
-    rt.stdin().take(MOST).read_to_end(&mut script)?;
-    run(&rt, &script, calls::fresh(0, 0))
+    let mut text = [0u8; MOST];
+    let n = read_full(&mut rt.stdin(), &mut text);
+    run(&rt, &text[..n], calls::fresh(0, 0))
 }
