@@ -1,3 +1,7 @@
+pub mod MotionLaws
+pub mod ReportLaws
 pub mod CommandLaws
-pub mod TrainsLaws
+pub mod TrainLaws
+pub mod CallLaws
 pub mod WaitLaws
+pub mod TrainsLaws

@@ -1,18 +1,24 @@
--- What the loop over a list of trains keeps from turn to turn.
+-- What the loop over a list of trains keeps from turn to turn, and the ways of the call.
 -- Assumes nothing.
 use Prim.Native.Nat.{ℕ, ◌+◌, ◌<◌, ◌≤◌}
+use mathlib.Core.Bool.{Bool, true, false, not}
 use mathlib.Core.List.{List, [], ◌∷◌}
 use mathlib.Core.Path.{◌≡◌, refl, sym, ◌∙◌}
 use native.Mathlib.Numerals.{add-one}
 use native.Mathlib.Omega.{arith}
+use borrow.Author.Tests.{lt-ltb, le-ltb}
 use lib.ListN.{length, get_or, drop, set, length-set, drop_of_length-le}
 use lib.Seq.{drop-cons}
 use Rattle.numbers.specs.Flags.{weight_of}
+use Rattle.numbers.specs.Member.{is_in}
 use Rattle.numbers.specs.Over.{over}
 use Rattle.numbers.proofs.OverLaws.{over_more, over_none, set_over}
+use Rattle.pulse.specs.declared.calls.Step.{Step}
 use Rattle.pulse.specs.declared.drive.Drive.{Drive}
+use Rattle.pulse.specs.Calls.{accepted, empty_train, refused, rules_broken}
+use Rattle.pulse.specs.Rules.{keeps_rules}
 use Rattle.pulse.specs.Train.{train_step}
-use Rattle.pulse.specs.Trains.{after_list, levels_of}
+use Rattle.pulse.specs.Trains.{after_list, levels_of, sent, short_levels, trains_call}
 
 -- how things stand after i trains from d₀: what is left of the list leads where the whole of it leads
 pub record Sending (counts : List ℕ) (levels₀ : List ℕ) (d₀ : Drive) (levels : List ℕ) (d : Drive) (i : ℕ) : Type 0 where
@@ -47,3 +53,24 @@ module _ (counts levels₀ levels : List ℕ) (d₀ d : Drive) (i : ℕ) (over-a
   pub told_all : levels ≡ over levels₀ 0 (levels_of d₀ counts)
   unfolding levels_of
   told_all = sym (over_none levels i) ∙ rw (drop_of_length-le counts over-all) at s.laid
+
+-- ---- the ways of the call
+
+module _ (d : Drive) (counts levels : List ℕ) (b : Bool) (p : b ≡ not (keeps_rules d)) where
+  pub list_broken : (r : Step) → b ≡ true → r ≡ refused d rules_broken → sent r levels ≡ trains_call d counts levels
+  unfolding trains_call
+  list_broken r e q = rw (← p, e, q)
+
+  module _ (z : Bool) (o : z ≡ is_in 0 counts) (e : b ≡ false) where
+    pub list-empty : (r : Step) → z ≡ true → r ≡ refused d empty_train → sent r levels ≡ trains_call d counts levels
+    unfolding trains_call
+    list-empty r f q = rw (← p, e, ← o, f, q)
+
+    pub list-short : (r : Step) → z ≡ false → length levels < length counts → r ≡ refused d short_levels → sent r levels ≡ trains_call d counts levels
+    unfolding trains_call
+    list-short r f l q = rw (← p, e, ← o, f, lt-ltb _ _ l, q)
+
+    pub list_done : (r : Step) (x : Drive) (told : List ℕ) → z ≡ false → length counts ≤ length levels → r ≡ accepted x → x ≡ after_list d counts
+        → told ≡ over levels 0 (levels_of d counts) → sent r told ≡ trains_call d counts levels
+    unfolding trains_call
+    list_done r x told f l q s t = rw (← p, e, ← o, f, le-ltb _ _ l, q, s, t)
