@@ -49,7 +49,8 @@ module _ (h : Header) (list : List ℕ) where
       let b = eqb (page_byte list 1) tape_page_length in
       let p = split (a && b) (leb (product (listed_tape list)) h.capacity) e in
       let q = split a b p.0 in
-      record { code = eqb-true _ _ q.0; after = eqb-true _ _ q.1; within = good_within h list e }
+      let w = good_within h list e in
+      record { code = eqb-true _ _ q.0; after = eqb-true _ _ q.1; within = omega arith }
 
   of_takes : TakesList h list → good_tape_list h list ≡ true
   unfolding good_tape_list

@@ -14,24 +14,14 @@ returns-in_default c = search make_broken
 pub returns-then-short : goal.returns-then-short
 returns-then-short c = search make-short
 
-pub write_entries-filemarks-requires-clause-p_le_end : goal.write_entries-filemarks-requires-clause-p_le_end
-write_entries-filemarks-requires-clause-p_le_end c = let g = sound _ _ (sym c.header_of.ensures ∙ c.in-Good.is) in
+pub write_entries-filemarks-requires : goal.write_entries-filemarks-requires
+write_entries-filemarks-requires c =
+    let g = sound _ _ (sym c.header_of.ensures ∙ c.in-Good.is) in
     let l = ltb-false (length c.args.index.now) (4 * c.in-Good.h.capacity) (sym c.is_short-short.ensures ∙ c.if-short.false) in
-    omega arith
-
-pub write_entries-filemarks-requires-clause-first_le_p : goal.write_entries-filemarks-requires-clause-first_le_p
-write_entries-filemarks-requires-clause-first_le_p c = let g = sound _ _ (sym c.header_of.ensures ∙ c.in-Good.is) in
-    let l = ltb-false (length c.args.index.now) (4 * c.in-Good.h.capacity) (sym c.is_short-short.ensures ∙ c.if-short.false) in
-    omega arith
-
-pub write_entries-filemarks-requires-clause-last_bound : goal.write_entries-filemarks-requires-clause-last_bound
-write_entries-filemarks-requires-clause-last_bound c = let g = sound _ _ (sym c.header_of.ensures ∙ c.in-Good.is) in
-    let l = ltb-false (length c.args.index.now) (4 * c.in-Good.h.capacity) (sym c.is_short-short.ensures ∙ c.if-short.false) in
-    omega arith
+    record { p_le_end = omega arith; first_le_p = omega arith; last_bound = omega arith }
 
 pub overflow_mul-c : goal.overflow_mul-c
-overflow_mul-c c = let g = sound _ _ (sym c.header_of.ensures ∙ c.in-Good.is) in
-    omega arith
+overflow_mul-c c = let g = sound _ _ (sym c.header_of.ensures ∙ c.in-Good.is) in omega arith
 
 pub returns : goal.returns
 returns c = search make-well
