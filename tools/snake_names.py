@@ -14,9 +14,9 @@ FIELD = re.compile(r"^\s+(?:pub )?([^\s:(){}=]+)\s*:")
 FIRST = {'crates/card_laws/proofs/PacketBytes.antt': {'ending_of': 'ending_of_lem'}}
 # fields and constructors that would stand beside a definition of the same name
 OTHER = {'power-on': 'by_power_on', 'not-refused': 'unrefused', 'past-warning': 'beyond_warning', 'short-index': 'index_short', 'stale-index': 'index_stale'}
-# words of the English of comments and pages, never a citation there
 # the library's own lemma of the same name
 KEPT = {'and-true': 'crates/image/proofs/HeaderLaws.antt'}
+# words of the English of comments and pages, never a citation there
 PLAIN = {'power-on', 'load-unload', 'mode-select', 'mode-sense', 'prevent-allow', 'one-back', 'past-warning', 'no-repeat'}
 
 
