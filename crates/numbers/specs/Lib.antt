@@ -4,6 +4,7 @@ pub mod Flags
 pub mod Member
 pub mod Outcomes
 pub mod Over
+pub mod Refusals
 pub mod RuleList
 pub mod Same
 pub mod Words

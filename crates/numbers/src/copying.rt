@@ -7,10 +7,5 @@ pub fn copy_block(dst: &mut [u8], src: &[u8])
     requires { length src.now ≤ length dst.old }
     ensures { dst.new ≡ over dst.old 0 src.now }
 {
-    let n = src.len();
-    let mut i: usize = 0;
-    while i < n {
-        dst[i] = src[i];
-        i += 1;
-    }
+    dst[..src.len()].copy_from_slice(src);
 }

@@ -6,4 +6,4 @@ pub mod words; // words.rt: little-endian words of 4 bytes
 pub mod flags; // flags.rt: flag bits in a byte
 pub mod copying; // copying.rt: the copier of one block
 pub mod tables; // tables.rt: short constant tables
-pub mod sizes; // sizes.rt: the smaller of two sizes
+pub mod refusals; // refusals.rt: why a call is refused

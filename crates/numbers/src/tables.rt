@@ -5,13 +5,5 @@ ghost use Rattle.numbers.specs.Member.{is_in};
 pub fn is_in(x: u16, table: &[u16]) -> bool
     ensures { result ≡ is_in x table.now }
 {
-    let n = table.len();
-    let mut i: usize = 0;
-    while i < n {
-        if table[i] == x {
-            return true;
-        }
-        i += 1;
-    }
-    false
+    table.contains(&x)
 }
