@@ -17,7 +17,7 @@ use Rattle.numbers.proofs.RuleLaws.{split, each_of, pass}
 use Rattle.numbers.proofs.CountLaws.{count_by_bytes}
 use Rattle.image.specs.declared.elements.Kind.{Kind}
 use Rattle.image.specs.declared.header.Header.{Header}
-use Rattle.image.specs.declared.header.Judged.TheVariants.{Good, Broken}
+use Rattle.std.specs.Prelude.{Some, None}
 use Rattle.image.specs.Elements.{kind_at, block_at, holds_data}
 use Rattle.image.specs.Sameness.{IsBlock, IsBlockOf}
 use Rattle.image.specs.Header.{block_sizes, fields_of, fixed_bytes, field_ranges, place_rules, keeps_header_rules, header_of}
@@ -26,19 +26,19 @@ use Rattle.image.specs.Header.{block_sizes, fields_of, fixed_bytes, field_ranges
 
 module _ (s : List ℕ) (h : Header) (a b c : Bool) where
   pub good : a ≡ all_hold (fixed_bytes s) → a ≡ true → h ≡ fields_of s → b ≡ all_hold (field_ranges h) → b ≡ true
-      → c ≡ all_hold (place_rules h (length s)) → c ≡ true → Good h ≡ header_of s
+      → c ≡ all_hold (place_rules h (length s)) → c ≡ true → Some h ≡ header_of s
   unfolding header_of keeps_header_rules
   good p p' q r r' t t' = cc
 
-  pub bad_places : h ≡ fields_of s → c ≡ all_hold (place_rules h (length s)) → c ≡ false → Broken ≡ header_of s
+  pub bad_places : h ≡ fields_of s → c ≡ all_hold (place_rules h (length s)) → c ≡ false → None ≡ header_of s
   unfolding header_of keeps_header_rules
   bad_places q t t' = cc (and-false (all_hold (fixed_bytes s) && all_hold (field_ranges h)))
 
-  pub bad_ranges : a ≡ all_hold (fixed_bytes s) → a ≡ true → h ≡ fields_of s → b ≡ all_hold (field_ranges h) → b ≡ false → Broken ≡ header_of s
+  pub bad_ranges : a ≡ all_hold (fixed_bytes s) → a ≡ true → h ≡ fields_of s → b ≡ all_hold (field_ranges h) → b ≡ false → None ≡ header_of s
   unfolding header_of keeps_header_rules
   bad_ranges p p' q r r' = cc
 
-pub bad_fixed : (s : List ℕ) (a : Bool) → a ≡ all_hold (fixed_bytes s) → a ≡ false → Broken ≡ header_of s
+pub bad_fixed : (s : List ℕ) (a : Bool) → a ≡ all_hold (fixed_bytes s) → a ≡ false → None ≡ header_of s
 unfolding header_of keeps_header_rules
 bad_fixed s a p p' = cc
 
@@ -91,11 +91,11 @@ pub record Sound (h : Header) (n : ℕ) : Type 0 where
   pub all_within : h.blocks + h.capacity * h.size ≤ n
   pub recorded_blocks : h.blocks + h.recorded * h.size ≤ n
 
-pub picked : (t : Bool) (f h : Header) → cond t (Good f) Broken ≡ Good h → (t ≡ true) × (f ≡ h)
+pub picked : (t : Bool) (f h : Header) → cond t (Some f) None ≡ Some h → (t ≡ true) × (f ≡ h)
 picked true f h e = (refl, (cc))
 picked false f h e = let z : ◌≡◌ {A = ℕ} 0 1 = cc in absurd (omega arith)
 
-module _ (s : List ℕ) (h : Header) (good : header_of s ≡ Good h) where
+module _ (s : List ℕ) (h : Header) (good : header_of s ≡ Some h) where
   pub fields_are : fields_of s ≡ h
   unfolding header_of
   fields_are = (picked (keeps_header_rules s) (fields_of s) h good).1
@@ -142,43 +142,43 @@ module _ (s : List ℕ) (h : Header) (good : header_of s ≡ Good h) where
         recorded_blocks = omega arith;
       }
 
-pub broken_by : (t : Bool) (f : Header) → cond t (Good f) Broken ≡ Broken → t ≡ false
+pub broken_by : (t : Bool) (f : Header) → cond t (Some f) None ≡ None → t ≡ false
 broken_by true f e = let z : ◌≡◌ {A = ℕ} 0 1 = cc in absurd (omega arith)
 broken_by false f e = refl
 
-pub broken_of : (s : List ℕ) → header_of s ≡ Broken → keeps_header_rules s ≡ false
+pub broken_of : (s : List ℕ) → header_of s ≡ None → keeps_header_rules s ≡ false
 unfolding header_of
 broken_of s e = broken_by (keeps_header_rules s) (fields_of s) e
 
-pub broken_header : (s : List ℕ) → keeps_header_rules s ≡ false → header_of s ≡ Broken
+pub broken_header : (s : List ℕ) → keeps_header_rules s ≡ false → header_of s ≡ None
 unfolding header_of
 broken_header s e = rw e
 
-pub good_header : (s : List ℕ) → keeps_header_rules s ≡ true → header_of s ≡ Good (fields_of s)
+pub good_header : (s : List ℕ) → keeps_header_rules s ≡ true → header_of s ≡ Some (fields_of s)
 unfolding header_of
 good_header s e = rw e
 
 -- a block of an image whose header is known
-pub is_block : (end : ℕ) (s : List ℕ) (h : Header) (i : ℕ) (bytes : List ℕ) → header_of s ≡ Good h → i < end → holds_data (kind_at s h.kinds i) ≡ true
+pub is_block : (end : ℕ) (s : List ℕ) (h : Header) (i : ℕ) (bytes : List ℕ) → header_of s ≡ Some h → i < end → holds_data (kind_at s h.kinds i) ≡ true
     → block_at s h.size h.blocks i ≡ bytes → IsBlock end s i bytes
 is_block end s h i bytes g l k b =
     let f = fields_are s h g in
     record { good = keeps_of s h g; before = l; holds = rw f k; same = rw f b }
 
 -- of a kind that holds data
-pub is_block_of : (kind : Kind) → holds_data kind ≡ true → (end : ℕ) (s : List ℕ) (h : Header) (i : ℕ) (bytes : List ℕ) → header_of s ≡ Good h → i < end
+pub is_block_of : (kind : Kind) → holds_data kind ≡ true → (end : ℕ) (s : List ℕ) (h : Header) (i : ℕ) (bytes : List ℕ) → header_of s ≡ Some h → i < end
     → kind_at s h.kinds i ≡ kind → block_at s h.size h.blocks i ≡ bytes → IsBlockOf kind end s i bytes
 is_block_of kind d end s h i bytes g l k b = (is_block end s h i bytes g l (ap holds_data k ∙ d) b, rw (fields_are s h g) k)
 
 -- a block of s is one of t, whose header is known, where the element is the same
-pub block_kept : (kind : Kind) (end end' : ℕ) (s t : List ℕ) (h : Header) (i : ℕ) (bytes : List ℕ) → IsBlockOf kind end s i bytes → header_of t ≡ Good h
+pub block_kept : (kind : Kind) (end end' : ℕ) (s t : List ℕ) (h : Header) (i : ℕ) (bytes : List ℕ) → IsBlockOf kind end s i bytes → header_of t ≡ Some h
     → i < end' → kind_at t h.kinds i ≡ kind_at s (fields_of s).kinds i
     → block_at t h.size h.blocks i ≡ block_at s (fields_of s).size (fields_of s).blocks i → IsBlockOf kind end' t i bytes
 block_kept kind end end' s t h i bytes block g l k b =
     is_block_of kind (ap holds_data (sym block.1) ∙ block.0.holds) end' t h i bytes g l (k ∙ block.1) (b ∙ block.0.same)
 
 pub good_by : (s : List ℕ) (h : Header) → fields_of s ≡ h → Each (fixed_bytes s) → Each (field_ranges h) → Each (place_rules h (length s))
-    → header_of s ≡ Good h
+    → header_of s ≡ Some h
 unfolding header_of keeps_header_rules
 good_by s h e f r p = rw (e, pass (fixed_bytes s) f, pass (field_ranges h) r, pass (place_rules h (length s)) p)
 
@@ -200,7 +200,7 @@ module _ (s t : List ℕ) (l : length t ≡ length s) (same : (i : ℕ) → i < 
       let e8 = number_same 22 2 (omega arith) in
       cc
 
-  pub header_same : (h : Header) → header_of s ≡ Good h → header_of t ≡ Good h
+  pub header_same : (h : Header) → header_of s ≡ Some h → header_of t ≡ Some h
   header_same h good =
       let f = each_fixed s h good in
       let e1 = number_same 0 2 (omega arith) in

@@ -19,7 +19,7 @@ use Rattle.numbers.proofs.Cases.{test, either}
 use Rattle.numbers.proofs.CountLaws.{length_put_count, put_count_below, put_count_above, count_read_back, count_by_bytes}
 use Rattle.numbers.proofs.OverLaws.{over_length, over_below, over_above, over_part, part_same, copied_over}
 use Rattle.image.specs.declared.header.Header.{Header}
-use Rattle.image.specs.declared.header.Judged.TheVariants.{Good}
+use Rattle.std.specs.Prelude.{Some}
 use Rattle.image.specs.declared.elements.Kind.TheVariants.{Data, Filemark, Unreadable}
 use Rattle.image.specs.Header.{fields_of, header_of, with_recorded}
 use Rattle.image.specs.Elements.{kind_of, kind_at, block_at, lay_as, lay_block, lay_unreadable, lay_mark, record_to}
@@ -39,7 +39,7 @@ apart j i n = test (ltb j i) (λ e. inl (ltb-true j i e)) (λ e. let g = ltb-fal
 
 -- t is s with an element laid at place p: one header, the other elements keep kind and bytes, and each byte m with Apart m stays
 pub record OneLaid (h : Header) (Apart : ℕ → Type 0) (p : ℕ) (s t : List ℕ) : Type 0 where
-  pub header : header_of t ≡ Good h
+  pub header : header_of t ≡ Some h
   pub size : length t ≡ length s
   pub kinds : (j : ℕ) → j < h.capacity → (j ≡ p → ⊥) → kind_at t h.kinds j ≡ kind_at s h.kinds j
   pub bytes : (j : ℕ) → j < h.capacity → (j ≡ p → ⊥) → block_at t h.size h.blocks j ≡ block_at s h.size h.blocks j
@@ -63,7 +63,7 @@ laid_both h A B p s t w x y =
       apart = λ m a. y.apart m a.0 ∙ x.apart m a.1;
     }
 
-module _ (s : List ℕ) (h : Header) (good : header_of s ≡ Good h) (i : ℕ) (within : i < h.capacity) where
+module _ (s : List ℕ) (h : Header) (good : header_of s ≡ Some h) (i : ℕ) (within : i < h.capacity) where
   -- ---- its kind
 
   module _ (kind : ℕ) where
@@ -144,7 +144,7 @@ module _ (s : List ℕ) (h : Header) (good : header_of s ≡ Good h) (i : ℕ) (
 
 -- ---- 01, 10h: a filemark laid as element i, "block bytes untouched"; 01, 0Ah: a block laid as element i
 
-module _ (s : List ℕ) (h : Header) (good : header_of s ≡ Good h) (i : ℕ) (within : i < h.capacity) where
+module _ (s : List ℕ) (h : Header) (good : header_of s ≡ Some h) (i : ℕ) (within : i < h.capacity) where
   pub mark_laid : OneLaid h (OffKind h i) i s (lay_mark s h.kinds i)
   unfolding lay_mark
   mark_laid = kind-laid s h good i within 2
@@ -162,7 +162,7 @@ module _ (s : List ℕ) (h : Header) (good : header_of s ≡ Good h) (i : ℕ) (
     abbrev under : List ℕ
     under = over s (h.blocks + i * h.size) new
 
-    under-good : header_of under ≡ Good h
+    under-good : header_of under ≡ Some h
     under-good = (over-laid s h good i within new whole).header
 
     -- whatever its kind
@@ -208,7 +208,7 @@ module _ (s : List ℕ) (h : Header) (good : header_of s ≡ Good h) (i : ℕ) (
 
 -- ---- U recorded
 
-module _ (s : List ℕ) (h : Header) (good : header_of s ≡ Good h) (u : ℕ) (within : u ≤ h.capacity) where
+module _ (s : List ℕ) (h : Header) (good : header_of s ≡ Some h) (u : ℕ) (within : u ≤ h.capacity) where
   abbrev noted : List ℕ
   noted = put_count s 8 4 u
 
@@ -232,7 +232,7 @@ module _ (s : List ℕ) (h : Header) (good : header_of s ≡ Good h) (u : ℕ) (
       let e8 = noted_number 22 2 (inr (omega arith)) in
       cc
 
-  pub noted_header : header_of noted ≡ Good (with_recorded h u)
+  pub noted_header : header_of noted ≡ Some (with_recorded h u)
   noted_header =
       let f = each_fixed s h good in
       let r = each_range s h good in
@@ -298,8 +298,8 @@ module _ (s : List ℕ) (p place : ℕ) where
       either P (ltb p place) (put_count s 8 4 place) s
       (λ e. ⊎_elim (λ l. put_count_below s 8 4 place m l) (λ l. put_count_above s 8 4 place m l) o) (λ e. refl)
 
-module _ (s : List ℕ) (h : Header) (good : header_of s ≡ Good h) (p place : ℕ) (within : place ≤ h.capacity) where
-  pub record_header : header_of (record_to s p place) ≡ Good (with_recorded h (recorded_after h.recorded p place))
+module _ (s : List ℕ) (h : Header) (good : header_of s ≡ Some h) (p place : ℕ) (within : place ≤ h.capacity) where
+  pub record_header : header_of (record_to s p place) ≡ Some (with_recorded h (recorded_after h.recorded p place))
   unfolding record_to recorded_after
   record_header = test (ltb p place) (λ e. rw e (noted_header s h good place within)) (λ e. rw e good)
 

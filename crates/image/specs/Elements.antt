@@ -29,6 +29,13 @@ kind_of x =
     if x ≡ᵇ marked_kind then Marked else
     Unreadable
 
+-- the byte that stands for a kind where one is stored
+abbrev pub kind_byte : Kind → ℕ
+kind_byte Data = data_kind
+kind_byte Filemark = filemark_kind
+kind_byte Unreadable = unreadable_kind
+kind_byte Marked = marked_kind
+
 -- the kinds that READ copies; 02, A6: "READ copies it as data"
 abbrev pub holds_data : Kind → Bool
 holds_data Data = true

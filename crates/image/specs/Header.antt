@@ -2,12 +2,10 @@
 -- elements; 8-11 recorded U, at most C; 12-15 offset K of the kind table; 16-19 offset D of the blocks; 20 write protect, 0 or 1; 21 medium type, any;
 -- 22-23 early warning W, at most C; 24-31 zero. Also K >= 32, K + C <= D, D + C*B <= image length."
 -- Assumes nothing.
-use Rattle.std.specs.Prelude.{ℕ, ◌+◌, ◌*◌, List, [], ◌∷◌, Bool, ◌&&◌, length, get_or, if◌then◌else◌}
+use Rattle.std.specs.Prelude.{ℕ, ◌+◌, ◌*◌, List, [], ◌∷◌, Bool, ◌&&◌, length, get_or, if◌then◌else◌, Option, Some, None}
 use Rattle.numbers.specs.Counts.{count_at}
 use Rattle.numbers.specs.RuleList.{Rule, ◌≤ʳ◌, ◌≡ʳ◌, ◌∈ʳ◌, all_hold}
 use Rattle.image.specs.declared.header.Header.{Header}
-use Rattle.image.specs.declared.header.Judged.{Judged}
-use Rattle.image.specs.declared.header.Judged.TheVariants.{Good, Broken}
 
 abbrev pub header_length : ℕ
 header_length = 32
@@ -65,18 +63,18 @@ place_rules h n =
 unfoldable pub keeps_header_rules : List ℕ → Bool
 keeps_header_rules s = all_hold (fixed_bytes s) && all_hold (field_ranges (fields_of s)) && all_hold (place_rules (fields_of s) (length s))
 
--- what every slice is judged to be
-unfoldable pub header_of : List ℕ → Judged
-header_of s = if keeps_header_rules s then Good (fields_of s) else Broken
+-- the header of a slice that is an image
+unfoldable pub header_of : List ℕ → Option Header
+header_of s = if keeps_header_rules s then Some (fields_of s) else None
 
 -- "2: image breaks a header rule above"
 abbrev pub broken_image : ℕ
 broken_image = 2
 
 -- the refusal number of each finding, 0 for none
-abbrev pub refusal_of : Judged → ℕ
-refusal_of Broken = broken_image
-refusal_of (Good h) = 0
+abbrev pub refusal_of : Option Header → ℕ
+refusal_of None = broken_image
+refusal_of (Some h) = 0
 
 -- the same header with another U
 abbrev pub with_recorded : Header → ℕ → Header

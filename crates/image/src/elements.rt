@@ -1,165 +1,144 @@
 // 01: "Element i has its kind at K + i and its bytes at D + i*B."
 ghost use Rattle.std.specs.Prelude.{◌≡◌, ◌+◌, ◌*◌, ◌<◌, ◌≤◌, length, set};
-ghost use Rattle.numbers.specs.Over.{part};
-ghost use Rattle.image.specs.Elements.{holds_data, is_filemark, is_marked, kind_at, lay_as, lay_block, lay_unreadable, lay_mark, set_recorded, record_to};
+ghost use Rattle.image.specs.Elements.{kind_of, kind_byte, holds_data, is_filemark, is_marked, kind_at, block_at};
+ghost use Rattle.image.specs.Elements.{lay_as, lay_block, lay_unreadable, lay_mark, set_recorded, record_to};
 
-use crate::header::span;
+use crate::header::{Header, span};
 use numbers::copying::copy_block;
 use numbers::counts::put_count4;
 
-#[derive(Clone, Copy)]
+#[derive(Clone, Copy, PartialEq, Eq)]
 pub enum Kind {
-    Data,
-    Filemark,
-    Unreadable,
-    Marked, // 02, A6: data under a deleted address mark
+    Unreadable = 0,
+    Data = 1,
+    Filemark = 2,
+    Marked = 4, // 02, A6: data under a deleted address mark
 }
 
-const DATA: u8 = 1;
+impl From<u8> for Kind {
+    ghost from_gives = { λ byte kind. kind ≡ kind_of byte };
 
-const FILEMARK: u8 = 2;
+    #[tactic(auto, unfolding(crate::specs::Elements::kind_of))]
+    fn from(byte: u8) -> Kind {
+        match byte {
+            1 => Kind::Data,
+            2 => Kind::Filemark,
+            4 => Kind::Marked,
+            _ => Kind::Unreadable,
+        }
+    }
+}
 
-const UNREADABLE: u8 = 0;
+impl Kind {
+    // 01: "Filemark: P + 1, stop", "Unreadable: P + 1, stop"; 02, A6: "READ copies it as data"
+    pub fn holds_data(self) -> bool
+        ensures { result ≡ holds_data self }
+    {
+        matches!(self, Kind::Data | Kind::Marked)
+    }
+
+    // 02, A6: "SPACE counts it as a block"
+    pub fn is_filemark(self) -> bool
+        ensures { result ≡ is_filemark self }
+    {
+        self == Kind::Filemark
+    }
+
+    pub fn is_marked(self) -> bool
+        ensures { result ≡ is_marked self }
+    {
+        self == Kind::Marked
+    }
+}
 
 const RECORDED_FIELD: usize = 8;
 
-fn kind_place(kinds: u32, i: u32) -> usize
-    ensures { result ≡ kinds + i }
-{
-    kinds as usize + i as usize
-}
-
-// D + i*B can pass 32 bits, so it is summed in the 64 of a place in the image.
-pub fn block_place(blocks: u32, i: u32, size: u16) -> usize
-    requires { (i ≤ 65535) × (size ≤ 1024) }
-    ensures { result ≡ blocks + i * size }
-{
-    blocks as usize + span(i, size) as usize
-}
-
-#[tactic(auto, unfolding(crate::specs::Elements::kind_at, crate::specs::Elements::kind_of))]
-pub fn kind_at(image: &[u8], kinds: u32, i: u32) -> Kind
-    requires { kinds + i < length image.now }
-    ensures { result ≡ kind_at image.now kinds i }
-{
-    match image[kind_place(kinds, i)] {
-        1 => Kind::Data,
-        2 => Kind::Filemark,
-        4 => Kind::Marked,
-        _ => Kind::Unreadable,
-    }
-}
-
-pub fn holds_data(kind: Kind) -> bool
-    ensures { result ≡ holds_data kind }
-{
-    match kind {
-        Kind::Data => true,
-        Kind::Filemark => false, // 01: "Filemark: P + 1, stop"
-        Kind::Unreadable => false, // 01: "Unreadable: P + 1, stop"
-        Kind::Marked => true, // 02, A6: "READ copies it as data"
-    }
-}
-
-pub fn is_filemark(kind: Kind) -> bool
-    ensures { result ≡ is_filemark kind }
-{
-    match kind {
-        Kind::Data => false,
-        Kind::Filemark => true,
-        Kind::Unreadable => false,
-        Kind::Marked => false, // 02, A6: "SPACE counts it as a block"
-    }
-}
-
-pub fn is_marked(kind: Kind) -> bool
-    ensures { result ≡ is_marked kind }
-{
-    match kind {
-        Kind::Data => false,
-        Kind::Filemark => false,
-        Kind::Unreadable => false,
-        Kind::Marked => true,
-    }
-}
-
 // The one place where a kind is stored, whatever it was before: 02, A6: "WRITE still stores kind 1."
-fn put_kind(image: &mut [u8], place: usize, kind: u8)
+fn put_kind(image: &mut [u8], place: usize, kind: Kind)
     requires { place < length image.old }
-    ensures { image.new ≡ set image.old place kind }
+    ensures { image.new ≡ set image.old place (kind_byte kind) }
 {
-    image[place] = kind;
+    image[place] = kind as u8;
 }
 
-// The block that stands in src from place off on becomes element i, of this kind.
-fn lay_as(
-    kind: u8,
-    image: &mut [u8],
-    size: u16,
-    kinds: u32,
-    blocks: u32,
-    i: u32,
-    src: &[u8],
-    off: usize,
-)
-    requires size_bound { size ≤ 1024 }
-    requires i_bound { i < 65535 }
-    requires i_bound_2 { kinds + i < blocks }
-    requires size_in_bounds { blocks + (i + 1) * size ≤ length image.old }
-    requires size_in_bounds_2 { off + size ≤ length src.now }
-    ensures { image.new ≡ lay_as kind image.old size kinds blocks i (part src.now off size) }
-{
-    let from = block_place(blocks, i, size);
-    let to = off + size as usize;
-    copy_block(&mut image[from..], &src[off..to]);
-    put_kind(image, kind_place(kinds, i), kind);
-}
+impl Header {
+    fn kind_place(self, i: u32) -> usize
+        ensures { result ≡ self.kinds + i }
+    {
+        self.kinds as usize + i as usize
+    }
 
-pub fn lay_block(
-    image: &mut [u8],
-    size: u16,
-    kinds: u32,
-    blocks: u32,
-    i: u32,
-    src: &[u8],
-    off: usize,
-)
-    requires size_bound { size ≤ 1024 }
-    requires i_bound { i < 65535 }
-    requires i_bound_2 { kinds + i < blocks }
-    requires size_in_bounds { blocks + (i + 1) * size ≤ length image.old }
-    requires size_in_bounds_2 { off + size ≤ length src.now }
-    ensures { image.new ≡ lay_block image.old size kinds blocks i (part src.now off size) }
-{
-    lay_as(DATA, image, size, kinds, blocks, i, src, off);
-}
+    // D + i*B can pass 32 bits, so it is summed in the 64 of a place in the image.
+    fn block_place(self, i: u32) -> usize
+        requires { (i ≤ 65535) × (self.size ≤ 1024) }
+        ensures { result ≡ self.blocks + i * self.size }
+    {
+        self.blocks as usize + span(i, self.size) as usize
+    }
 
-// 02, A7: its bytes are kept, and it stays unreadable.
-pub fn lay_unreadable(
-    image: &mut [u8],
-    size: u16,
-    kinds: u32,
-    blocks: u32,
-    i: u32,
-    src: &[u8],
-    off: usize,
-)
-    requires size_bound { size ≤ 1024 }
-    requires i_bound { i < 65535 }
-    requires i_bound_2 { kinds + i < blocks }
-    requires size_in_bounds { blocks + (i + 1) * size ≤ length image.old }
-    requires size_in_bounds_2 { off + size ≤ length src.now }
-    ensures { image.new ≡ lay_unreadable image.old size kinds blocks i (part src.now off size) }
-{
-    lay_as(UNREADABLE, image, size, kinds, blocks, i, src, off);
-}
+    #[tactic(auto, unfolding(crate::specs::Elements::kind_at))]
+    pub fn kind_at(self, image: &[u8], i: u32) -> Kind
+        requires { self.kinds + i < length image.now }
+        ensures { result ≡ kind_at image.now self.kinds i }
+    {
+        Kind::from(image[self.kind_place(i)])
+    }
 
-// A filemark becomes element i; no block's bytes change.
-pub fn lay_mark(image: &mut [u8], kinds: u32, i: u32)
-    requires { kinds + i < length image.old }
-    ensures { image.new ≡ lay_mark image.old kinds i }
-{
-    put_kind(image, kind_place(kinds, i), FILEMARK);
+    #[tactic(auto, unfolding(crate::specs::Elements::block_at))]
+    pub fn block<'a>(self, image: &'a [u8], i: u32) -> &'a [u8]
+        requires { (i < 65535) × (self.size ≤ 1024) × (self.blocks + (i + 1) * self.size ≤ length image.now) }
+        ensures { result.now ≡ block_at image.now self.size self.blocks i }
+    {
+        let from = self.block_place(i);
+        &image[from..from + self.size as usize]
+    }
+
+    // The bytes of a block become those of element i, which is of this kind.
+    fn lay_as(self, kind: Kind, image: &mut [u8], i: u32, block: &[u8])
+        requires size_bound { self.size ≤ 1024 }
+        requires i_bound { i < 65535 }
+        requires kind_below_blocks { self.kinds + i < self.blocks }
+        requires block_inside { self.blocks + (i + 1) * self.size ≤ length image.old }
+        requires whole_block { length block.now ≡ self.size }
+        ensures { image.new ≡ lay_as (kind_byte kind) image.old self.size self.kinds self.blocks i block.now }
+    {
+        copy_block(&mut image[self.block_place(i)..], block);
+        put_kind(image, self.kind_place(i), kind);
+    }
+
+    #[tactic(auto, unfolding(crate::specs::Elements::lay_block))]
+    pub fn lay_block(self, image: &mut [u8], i: u32, block: &[u8])
+        requires size_bound { self.size ≤ 1024 }
+        requires i_bound { i < 65535 }
+        requires kind_below_blocks { self.kinds + i < self.blocks }
+        requires block_inside { self.blocks + (i + 1) * self.size ≤ length image.old }
+        requires whole_block { length block.now ≡ self.size }
+        ensures { image.new ≡ lay_block image.old self.size self.kinds self.blocks i block.now }
+    {
+        self.lay_as(Kind::Data, image, i, block);
+    }
+
+    // 02, A7: its bytes are kept, and it stays unreadable.
+    #[tactic(auto, unfolding(crate::specs::Elements::lay_unreadable))]
+    pub fn lay_unreadable(self, image: &mut [u8], i: u32, block: &[u8])
+        requires size_bound { self.size ≤ 1024 }
+        requires i_bound { i < 65535 }
+        requires kind_below_blocks { self.kinds + i < self.blocks }
+        requires block_inside { self.blocks + (i + 1) * self.size ≤ length image.old }
+        requires whole_block { length block.now ≡ self.size }
+        ensures { image.new ≡ lay_unreadable image.old self.size self.kinds self.blocks i block.now }
+    {
+        self.lay_as(Kind::Unreadable, image, i, block);
+    }
+
+    // A filemark becomes element i; no block's bytes change.
+    #[tactic(auto, unfolding(crate::specs::Elements::lay_mark))]
+    pub fn lay_mark(self, image: &mut [u8], i: u32)
+        requires { self.kinds + i < length image.old }
+        ensures { image.new ≡ lay_mark image.old self.kinds i }
+    {
+        put_kind(image, self.kind_place(i), Kind::Filemark);
+    }
 }
 
 // 02, A7: "Import sets U to the elements read".

@@ -18,13 +18,6 @@ pub struct Header {
     pub medium: u8, // medium type
 }
 
-// What the header function finds.
-#[derive(Clone, Copy)]
-pub enum Judged {
-    Broken,
-    Good(Header),
-}
-
 const HEADER_LENGTH: u16 = 32;
 
 const MOST_ELEMENTS: u32 = 65535;
@@ -116,16 +109,16 @@ fn keeps_places(h: Header, n: usize) -> bool
     true
 }
 
-pub fn header_of(image: &[u8]) -> Judged
+pub fn header_of(image: &[u8]) -> Option<Header>
     ensures { result ≡ header_of image.now }
 {
     if has_fixed_bytes(image) {
         let h = fields(image);
         if keeps_ranges(h) {
             if keeps_places(h, image.len()) {
-                return Judged::Good(h);
+                return Some(h);
             }
         }
     }
-    Judged::Broken
+    None
 }
