@@ -1,7 +1,7 @@
 -- SPACE, one element at a time: what is left to do gives what the whole gives.
 -- Assumes nothing.
 use Rattle.std.specs.Prelude.{if◌then◌else◌}
-use mathlib.Core.Path.{◌≡◌, refl, ap}
+use mathlib.Core.Path.{◌≡◌, refl}
 use mathlib.Core.Bool.{Bool, true, false}
 use mathlib.Core.List.{List}
 use Prim.Native.Nat.{ℕ, zero, suc, ◌+◌, ◌-◌, ◌<◌, ◌≤◌}
@@ -16,81 +16,70 @@ use Rattle.transfer.specs.declared.Moved.{Moved}
 use Rattle.transfer.specs.declared.Stop.TheVariants.{Full, AtFilemark, AtEnd, AtBeginning}
 use Rattle.transfer.specs.Moving.{halts}
 use Rattle.transfer.specs.Spacing.{marks_left, blocks_on, blocks_back, marks_on, marks_back}
-use Rattle.transfer.proofs.EndLaws.{Ended, ended_full, ended_short, ended_on, filemark_short, end_short, beginning_short}
+use Rattle.transfer.proofs.EndLaws.{none_left, one_fewer, Ended, ended_full, ended_short, ended_on, filemark_short, end_short, beginning_short}
 
 -- ---- the loops' steps: of n asked for, `done` are done
 
 module _ (s : List ℕ) (kinds end n done p : ℕ) where
   pub on_full : done ≡ n → blocks_on s kinds end (n - done) (p + done) ≡ halts (p + done) 0 Full
   unfolding blocks_on
-  on_full e = let z : n - done ≡ 0 = omega arith in rw z refl
+  on_full e = rw (none_left n done e) refl
 
   pub on_at_end : done < n → end ≤ p + done → blocks_on s kinds end (n - done) (p + done) ≡ halts (p + done) (n - done) AtEnd
   unfolding blocks_on
-  on_at_end l e = let z : n - done ≡ suc (n - (done + 1)) = omega arith in rw (z, le-leb end (p + done) e) refl
+  on_at_end l e = rw (one_fewer n done l, le-leb end (p + done) e) refl
 
   pub on_at_mark : done < n → p + done < end → is_filemark (kind_at s kinds (p + done)) ≡ true
       → blocks_on s kinds end (n - done) (p + done) ≡ halts (p + done + 1) (n - done) AtFilemark
   unfolding blocks_on
-  on_at_mark l e t = let z : n - done ≡ suc (n - (done + 1)) = omega arith in rw (z, lt-leb end (p + done) e, t) refl
+  on_at_mark l e t = rw (one_fewer n done l, lt-leb end (p + done) e, t) refl
 
   pub on_passes : done < n → p + done < end → is_filemark (kind_at s kinds (p + done)) ≡ false
       → blocks_on s kinds end (n - done) (p + done) ≡ blocks_on s kinds end (n - (done + 1)) (p + (done + 1))
   unfolding blocks_on
   on_passes l e t =
-      let z : n - done ≡ suc (n - (done + 1)) = omega arith in
       let y : p + done + 1 ≡ p + (done + 1) = omega arith in
-      rw (z, lt-leb end (p + done) e, t, y) refl
+      rw (one_fewer n done l, lt-leb end (p + done) e, t, y) refl
 
 pub ruleset on_ways = (on_full, on_at_end, on_at_mark, on_passes)
 
 module _ (s : List ℕ) (kinds n done p : ℕ) where
   pub back_full : done ≡ n → blocks_back s kinds (p - done) (n - done) ≡ halts (p - done) 0 Full
   unfolding blocks_back
-  back_full e = let z : n - done ≡ 0 = omega arith in rw z refl
+  back_full e = rw (none_left n done e) refl
 
   pub back_at_start : done < n → p - done ≡ 0 → blocks_back s kinds (p - done) (n - done) ≡ halts 0 (n - done) AtBeginning
   unfolding blocks_back
-  back_at_start l e = let z : n - done ≡ suc (n - (done + 1)) = omega arith in rw (z, e) refl
+  back_at_start l e = rw (one_fewer n done l, e) refl
 
-  pub back_at_mark : done < n → (p - done ≡ 0 → ⊥) → is_filemark (kind_at s kinds (p - done - 1)) ≡ true
-      → blocks_back s kinds (p - done) (n - done) ≡ halts (p - done - 1) (n - done) AtFilemark
+  pub back_at_mark : done < n → done < p → is_filemark (kind_at s kinds (p - (done + 1))) ≡ true
+      → blocks_back s kinds (p - done) (n - done) ≡ halts (p - (done + 1)) (n - done) AtFilemark
   unfolding blocks_back
-  back_at_mark l f t =
-      let z : n - done ≡ suc (n - (done + 1)) = omega arith in
-      let y : p - done ≡ suc (p - done - 1) = omega arith in
-      rw z (rw (ap (λ (at : ℕ). blocks_back s kinds at (suc (n - (done + 1)))) y, t) refl)
+  back_at_mark l m t = rw (one_fewer n done l, one_fewer p done m, t) refl
 
-  pub back_passes : done < n → (p - done ≡ 0 → ⊥) → is_filemark (kind_at s kinds (p - done - 1)) ≡ false
+  pub back_passes : done < n → done < p → is_filemark (kind_at s kinds (p - (done + 1))) ≡ false
       → blocks_back s kinds (p - done) (n - done) ≡ blocks_back s kinds (p - (done + 1)) (n - (done + 1))
   unfolding blocks_back
-  back_passes l f t =
-      let z : n - done ≡ suc (n - (done + 1)) = omega arith in
-      let y : p - done ≡ suc (p - done - 1) = omega arith in
-      let x : p - (done + 1) ≡ p - done - 1 = omega arith in
-      rw (z, x) (rw (ap (λ (at : ℕ). blocks_back s kinds at (suc (n - (done + 1)))) y, t) refl)
+  back_passes l m t = rw (one_fewer n done l, one_fewer p done m, t) refl
 
 pub ruleset back_ways = (back_full, back_at_start, back_at_mark, back_passes)
 
 -- ---- the same over filemarks, of which `left` are left at a place
 
-module _ (s : List ℕ) (kinds end left at : ℕ) where
-  pub marks_on_full : left ≡ 0 → marks_on s kinds (end - at) left at ≡ halts at 0 Full
+module _ (s : List ℕ) (kinds left at : ℕ) where
+  pub marks_on_full : (ahead : ℕ) → left ≡ 0 → marks_on s kinds ahead left at ≡ halts at 0 Full
   unfolding marks_on
-  marks_on_full e = by (end - at)
-    where
-      by : (ahead : ℕ) → marks_on s kinds ahead left at ≡ halts at 0 Full
-      by zero = rw e refl
-      by (suc ahead) = rw e refl
+  marks_on_full zero e = rw e refl
+  marks_on_full (suc ahead) e = rw e refl
 
-  pub marks_on_at_end : (left ≡ 0 → ⊥) → end ≤ at → marks_on s kinds (end - at) left at ≡ halts at left AtEnd
+  pub marks_on_at_end : (end : ℕ) → (left ≡ 0 → ⊥) → at ≡ end → marks_on s kinds (end - at) left at ≡ halts at left AtEnd
   unfolding marks_on
-  marks_on_at_end f e = let z : end - at ≡ 0 = omega arith in rw (z, ne_eqb left 0 f) refl
+  marks_on_at_end end f e = rw (none_left end at e, ne_eqb left 0 f) refl
 
-  pub marks_on_passes : (left ≡ 0 → ⊥) → at < end
+  pub marks_on_passes : (end : ℕ) → (left ≡ 0 → ⊥) → at < end
       → marks_on s kinds (end - at) left at ≡ marks_on s kinds (end - (at + 1)) (marks_left (kind_at s kinds at) left) (at + 1)
   unfolding marks_on
-  marks_on_passes f l = let z : end - at ≡ suc (end - (at + 1)) = omega arith in rw (z, ne_eqb left 0 f) refl
+  marks_on_passes end f l = rw (one_fewer end at l, ne_eqb left 0 f) refl
 
 pub ruleset marks_on_ways = (marks_on_full, marks_on_at_end, marks_on_passes)
 

@@ -1,20 +1,9 @@
-// 01, 11h SPACE.
+// 01, 11h SPACE. Two loops each way: a filemark ends a run over blocks, and is what a run over filemarks counts.
 ghost use Rattle.std.specs.Prelude.{◌≡◌, ◌+◌, ◌-◌, ◌≤◌, length};
-ghost use Rattle.transfer.specs.Spacing.{marks_left, blocks_on, blocks_back, marks_on, marks_back};
+ghost use Rattle.transfer.specs.Spacing.{blocks_on, blocks_back, marks_on, marks_back};
 
 use crate::{Moved, Stop, halt};
-use image::elements::Kind;
 use image::header::Header;
-
-fn marks_left(kind: Kind, left: u32) -> u32
-    requires { 1 ≤ left }
-    ensures { result ≡ marks_left kind left }
-{
-    if kind.is_filemark() {
-        return left - 1;
-    }
-    left
-}
 
 #[tactic(auto, using(crate::proofs::SpaceLaws::on_ways))]
 pub fn blocks_on(image: &[u8], h: Header, end: u32, n: u32, p: u32) -> Moved
@@ -61,7 +50,9 @@ pub fn marks_on(image: &[u8], h: Header, end: u32, n: u32, p: u32) -> Moved
         if left == 0 {
             return halt(at, 0, Stop::Full);
         }
-        left = marks_left(h.kind_at(image, at), left);
+        if h.kind_at(image, at).is_filemark() {
+            left -= 1;
+        }
     }
     if left == 0 {
         return halt(end, 0, Stop::Full);
@@ -79,7 +70,9 @@ pub fn marks_back(image: &[u8], h: Header, n: u32, p: u32) -> Moved
         if left == 0 {
             return halt(at + 1, 0, Stop::Full);
         }
-        left = marks_left(h.kind_at(image, at), left);
+        if h.kind_at(image, at).is_filemark() {
+            left -= 1;
+        }
     }
     if left == 0 {
         return halt(0, 0, Stop::Full);
