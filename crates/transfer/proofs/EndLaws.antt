@@ -14,13 +14,13 @@ use Rattle.transfer.specs.declared.Stop.TheVariants.{Full, AtFilemark, AtBadBloc
 use Rattle.transfer.specs.Moving.{halts}
 use Rattle.transfer.specs.Reading.{stop_at}
 
--- of n asked for, `done` are done: none is left, or one and fewer
+-- of n asked for, `done` are done: none is left, or one and what is left after it
 module _ (n done : ℕ) where
   pub none_left : done ≡ n → n - done ≡ 0
   none_left e = omega arith
 
-  pub one_fewer : done < n → n - done ≡ suc (n - (done + 1))
-  one_fewer l = omega arith
+  pub some_left : done < n → n - done ≡ suc (n - (done + 1))
+  some_left l = omega arith
 
 -- a run that was asked for n
 pub record Ended (n : ℕ) (m : Moved) : Type 0 where

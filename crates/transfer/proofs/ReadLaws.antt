@@ -18,7 +18,7 @@ use Rattle.transfer.specs.declared.Moved.{Moved}
 use Rattle.transfer.specs.declared.Stop.TheVariants.{Full, AtEnd}
 use Rattle.transfer.specs.Moving.{halts}
 use Rattle.transfer.specs.Reading.{Reading, reads, stop_at, read_from}
-use Rattle.transfer.proofs.EndLaws.{none_left, one_fewer, Ended, ended_full, ended_short, ended_on, stop_short, end_short}
+use Rattle.transfer.proofs.EndLaws.{none_left, some_left, Ended, ended_full, ended_short, ended_on, stop_short, end_short}
 
 -- ---- the loop's steps: of n asked for, `done` are done
 
@@ -30,13 +30,13 @@ module _ (s : List ℕ) (size kinds blocks end n done off p : ℕ) (buf : List �
   pub read_at_end : done < n → end ≤ p + done
       → read_from s size kinds blocks end (n - done) off (p + done) buf ≡ reads buf (halts (p + done) (n - done) AtEnd)
   unfolding read_from
-  read_at_end l e = rw (one_fewer n done l, le-leb end (p + done) e) refl
+  read_at_end l e = rw (some_left n done l, le-leb end (p + done) e) refl
 
   pub read_stops : done < n → p + done < end → holds_data (kind_at s kinds (p + done)) ≡ false
       → read_from s size kinds blocks end (n - done) off (p + done) buf
       ≡ reads buf (halts (p + done + 1) (n - done) (stop_at (kind_at s kinds (p + done))))
   unfolding read_from
-  read_stops l e t = rw (one_fewer n done l, lt-leb end (p + done) e, t) refl
+  read_stops l e t = rw (some_left n done l, lt-leb end (p + done) e, t) refl
 
   pub read_copies : done < n → p + done < end → holds_data (kind_at s kinds (p + done)) ≡ true
       → read_from s size kinds blocks end (n - done) off (p + done) buf
@@ -44,7 +44,7 @@ module _ (s : List ℕ) (size kinds blocks end n done off p : ℕ) (buf : List �
   unfolding read_from
   read_copies l e t =
       let y : p + done + 1 ≡ p + (done + 1) = omega arith in
-      rw (one_fewer n done l, lt-leb end (p + done) e, t, y) refl
+      rw (some_left n done l, lt-leb end (p + done) e, t, y) refl
 
 -- what is lent to the copier of one block, and what comes back
 

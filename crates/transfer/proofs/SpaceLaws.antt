@@ -16,7 +16,7 @@ use Rattle.transfer.specs.declared.Moved.{Moved}
 use Rattle.transfer.specs.declared.Stop.TheVariants.{Full, AtFilemark, AtEnd, AtBeginning}
 use Rattle.transfer.specs.Moving.{halts}
 use Rattle.transfer.specs.Spacing.{marks_left, blocks_on, blocks_back, marks_on, marks_back}
-use Rattle.transfer.proofs.EndLaws.{none_left, one_fewer, Ended, ended_full, ended_short, ended_on, filemark_short, end_short, beginning_short}
+use Rattle.transfer.proofs.EndLaws.{none_left, some_left, Ended, ended_full, ended_short, ended_on, filemark_short, end_short, beginning_short}
 
 -- ---- the loops' steps: of n asked for, `done` are done
 
@@ -27,19 +27,19 @@ module _ (s : List ℕ) (kinds end n done p : ℕ) where
 
   pub on_at_end : done < n → end ≤ p + done → blocks_on s kinds end (n - done) (p + done) ≡ halts (p + done) (n - done) AtEnd
   unfolding blocks_on
-  on_at_end l e = rw (one_fewer n done l, le-leb end (p + done) e) refl
+  on_at_end l e = rw (some_left n done l, le-leb end (p + done) e) refl
 
   pub on_at_mark : done < n → p + done < end → is_filemark (kind_at s kinds (p + done)) ≡ true
       → blocks_on s kinds end (n - done) (p + done) ≡ halts (p + done + 1) (n - done) AtFilemark
   unfolding blocks_on
-  on_at_mark l e t = rw (one_fewer n done l, lt-leb end (p + done) e, t) refl
+  on_at_mark l e t = rw (some_left n done l, lt-leb end (p + done) e, t) refl
 
   pub on_passes : done < n → p + done < end → is_filemark (kind_at s kinds (p + done)) ≡ false
       → blocks_on s kinds end (n - done) (p + done) ≡ blocks_on s kinds end (n - (done + 1)) (p + (done + 1))
   unfolding blocks_on
   on_passes l e t =
       let y : p + done + 1 ≡ p + (done + 1) = omega arith in
-      rw (one_fewer n done l, lt-leb end (p + done) e, t, y) refl
+      rw (some_left n done l, lt-leb end (p + done) e, t, y) refl
 
 pub ruleset on_ways = (on_full, on_at_end, on_at_mark, on_passes)
 
@@ -50,17 +50,21 @@ module _ (s : List ℕ) (kinds n done p : ℕ) where
 
   pub back_at_start : done < n → p - done ≡ 0 → blocks_back s kinds (p - done) (n - done) ≡ halts 0 (n - done) AtBeginning
   unfolding blocks_back
-  back_at_start l e = rw (one_fewer n done l, e) refl
+  back_at_start l e = rw (some_left n done l, e) refl
 
-  pub back_at_mark : done < n → done < p → is_filemark (kind_at s kinds (p - (done + 1))) ≡ true
-      → blocks_back s kinds (p - done) (n - done) ≡ halts (p - (done + 1)) (n - done) AtFilemark
-  unfolding blocks_back
-  back_at_mark l m t = rw (one_fewer n done l, one_fewer p done m, t) refl
+  module _ (l : done < n) (m : done < p) where
+    back : p - done - 1 ≡ p - (done + 1)
+    back = omega arith
 
-  pub back_passes : done < n → done < p → is_filemark (kind_at s kinds (p - (done + 1))) ≡ false
-      → blocks_back s kinds (p - done) (n - done) ≡ blocks_back s kinds (p - (done + 1)) (n - (done + 1))
-  unfolding blocks_back
-  back_passes l m t = rw (one_fewer n done l, one_fewer p done m, t) refl
+    pub back_at_mark : is_filemark (kind_at s kinds (p - done - 1)) ≡ true
+        → blocks_back s kinds (p - done) (n - done) ≡ halts (p - done - 1) (n - done) AtFilemark
+    unfolding blocks_back
+    back_at_mark t = rw (back, some_left n done l, some_left p done m, (rw back at t)) refl
+
+    pub back_passes : is_filemark (kind_at s kinds (p - done - 1)) ≡ false
+        → blocks_back s kinds (p - done) (n - done) ≡ blocks_back s kinds (p - (done + 1)) (n - (done + 1))
+    unfolding blocks_back
+    back_passes t = rw (some_left n done l, some_left p done m, (rw back at t)) refl
 
 pub ruleset back_ways = (back_full, back_at_start, back_at_mark, back_passes)
 
@@ -79,7 +83,7 @@ module _ (s : List ℕ) (kinds left at : ℕ) where
   pub marks_on_passes : (end : ℕ) → (left ≡ 0 → ⊥) → at < end
       → marks_on s kinds (end - at) left at ≡ marks_on s kinds (end - (at + 1)) (marks_left (kind_at s kinds at) left) (at + 1)
   unfolding marks_on
-  marks_on_passes end f l = rw (one_fewer end at l, ne_eqb left 0 f) refl
+  marks_on_passes end f l = rw (some_left end at l, ne_eqb left 0 f) refl
 
 pub ruleset marks_on_ways = (marks_on_full, marks_on_at_end, marks_on_passes)
 

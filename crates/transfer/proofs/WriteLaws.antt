@@ -12,7 +12,7 @@ use Rattle.transfer.specs.declared.Moved.{Moved}
 use Rattle.transfer.specs.declared.Stop.TheVariants.{Full, AtEnd}
 use Rattle.transfer.specs.Moving.{halts}
 use Rattle.transfer.specs.Writing.{Writing, writes, lay_from}
-use Rattle.transfer.proofs.EndLaws.{none_left, one_fewer, Ended, ended_full, ended_short, ended_on, end_short}
+use Rattle.transfer.proofs.EndLaws.{none_left, some_left, Ended, ended_full, ended_short, ended_on, end_short}
 
 -- from place p on, n were asked for: each one done is one place
 record Advanced (n p : ℕ) (m : Moved) : Type 0 where
@@ -28,14 +28,14 @@ module _ (lay : ℕ → ℕ → List ℕ → List ℕ) (size end n done off p : 
 
   pub lay_at_end : done < n → end ≤ p + done → lay_from lay size end (n - done) off (p + done) s ≡ writes s (halts (p + done) (n - done) AtEnd)
   unfolding lay_from
-  lay_at_end l e = rw (one_fewer n done l, le-leb end (p + done) e) refl
+  lay_at_end l e = rw (some_left n done l, le-leb end (p + done) e) refl
 
   pub lay_lays : done < n → p + done < end
       → lay_from lay size end (n - done) off (p + done) s ≡ lay_from lay size end (n - (done + 1)) (off + size) (p + (done + 1)) (lay off (p + done) s)
   unfolding lay_from
   lay_lays l e =
       let y : p + done + 1 ≡ p + (done + 1) = omega arith in
-      rw (one_fewer n done l, lt-leb end (p + done) e, y) refl
+      rw (some_left n done l, lt-leb end (p + done) e, y) refl
 
 pub ruleset lay_ways = (lay_full, lay_at_end, lay_lays)
 

@@ -1,4 +1,4 @@
-// Runs over the tape, one loop each: plain numbers in, no record and no sense.
+// Runs over the tape, one loop each: a header and plain numbers in, no record and no sense.
 #![tactic(auto)]
 
 ghost use Rattle.std.specs.Prelude.{◌≡◌};

@@ -4,5 +4,4 @@ use Rattle.transfer.specs.Spacing.{marks_back}
 use Rattle.transfer.proofs.spacing.marks_back.Given as goal
 
 abbrev pub invariant-loop-at : goal.invariant-loop-at
-invariant-loop-at l =
-    marks_back l.image l.h.kinds l.at l.left ≡ marks_back l.image l.h.kinds l.p l.n
+invariant-loop-at l = marks_back l.image l.h.kinds l.at l.left ≡ marks_back l.image l.h.kinds l.p l.n
