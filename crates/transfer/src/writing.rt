@@ -1,4 +1,4 @@
-// 01, 0Ah WRITE and 10h WRITE FILEMARK.
+// 01, 0Ah WRITE and 10h WRITE FILEMARK. Two loops: one over a closure would say at length what the closure asks at each element.
 ghost use Rattle.std.specs.Prelude.{◌≡◌, ◌+◌, ◌*◌, ◌≤◌, length};
 ghost use Rattle.transfer.specs.Writing.{writes, write_from, mark_from};
 
