@@ -16,6 +16,7 @@ use packet_parts::verdicts::{
 };
 use packet_state::state::{State, Verdict};
 
+// Lengths and pages of its own: a pattern here is plainer than a table handed to one check for both devices.
 fn bad_length(length: usize) -> bool
     ensures { result ≡ bad_length length }
 {
