@@ -37,6 +37,7 @@ fn is_block_size(size: u16) -> bool
     matches!(size, 512 | 1024)
 }
 
+#[tactic(auto, unfolding(crate::specs::Header::fields_of))]
 fn fields(image: &[u8]) -> Header
     requires { 32 ≤ length image.now }
     ensures { result ≡ fields_of image.now }
