@@ -47,7 +47,6 @@ impl PacketDevice for StreamDevice {
         end_before(state, sense)
     }
 
-    #[tactic(auto, using(crate::proofs::PacketLaws::has_passed, crate::proofs::PacketLaws::has_room))]
     fn work(
         image: &mut [u8],
         h: Header,

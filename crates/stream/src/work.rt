@@ -46,6 +46,7 @@ fn ending_of(h: Header, stop: Stop, left: u32) -> Ending
 }
 
 // Header and place stand in each contract: no struct beside a lent image, which WRITE changes, could keep what they say of it.
+#[tactic(auto, using(crate::proofs::WorkLaws::warning_within), unfolding(crate::specs::Work::read_work, crate::specs::Work::read_ends))]
 fn read(image: &[u8], h: Header, state: State, asked: u32, buf: &mut [u8]) -> Outcome<State>
     requires image_value { header_of image.now ≡ Some h }
     requires position_le_recorded { state.position ≤ h.recorded }
@@ -71,6 +72,7 @@ fn write_ending(h: Header, asked: u32, moved: Moved) -> Ending
     Ok(())
 }
 
+#[tactic(auto, using(crate::proofs::WorkLaws::warning_within), unfolding(crate::specs::Work::write_work, crate::specs::Work::write_ends))]
 fn write(image: &mut [u8], h: Header, state: State, asked: u32, buf: &[u8]) -> Outcome<State>
     requires image_value { header_of image.old ≡ Some h }
     requires position_le_recorded { state.position ≤ h.recorded }
@@ -85,6 +87,7 @@ fn write(image: &mut [u8], h: Header, state: State, asked: u32, buf: &[u8]) -> O
 }
 
 // 10h takes no bytes of the buffer; it is lent so that the promise can say that it stays.
+#[tactic(auto, using(crate::proofs::WorkLaws::warning_within), unfolding(crate::specs::Work::mark_work, crate::specs::Work::write_ends))]
 fn write_marks(image: &mut [u8], h: Header, state: State, asked: u32, buf: &[u8]) -> Outcome<State>
     requires image_value { header_of image.old ≡ Some h }
     requires position_le_recorded { state.position ≤ h.recorded }
@@ -122,7 +125,7 @@ pub fn end_space(h: Header, state: State, moved: Moved) -> Outcome<State>
     end(state.at_place(moved.place), ending, 0, 0)
 }
 
-#[tactic(auto, unfolding(crate::specs::Work::space_work))]
+#[tactic(auto, using(crate::proofs::WorkLaws::warning_within), unfolding(crate::specs::Work::space_work))]
 fn space(image: &[u8], h: Header, state: State, code: u8, count: u32) -> Outcome<State>
     requires image_value { header_of image.now ≡ Some h }
     requires position_le_recorded { state.position ≤ h.recorded }
@@ -179,7 +182,7 @@ fn locate(h: Header, state: State, target: u32) -> Outcome<State>
     end(state.at_place(target), Ok(()), 0, 0)
 }
 
-#[tactic(auto, unfolding(crate::specs::Work::work_of, stream_parts::specs::Checks::asked_by))]
+#[tactic(auto, using(crate::proofs::WorkLaws::room_for_position, crate::proofs::WorkLaws::warning_within), unfolding(crate::specs::Work::work_of, stream_parts::specs::Checks::asked_by))]
 pub fn work(image: &mut [u8], h: Header, state: State, q: Request, buf: &mut [u8]) -> Outcome<State>
     requires passed { Passed image.old h state q }
     requires q_in_bounds { (asked_by q.command h q).needed ≤ length buf.old }
