@@ -4,7 +4,7 @@
 ghost use Rattle.std.specs.Prelude.{◌≡◌};
 ghost use Rattle.opcodes.specs.Commands.{stream_command, floppy_command, command_of_class};
 
-#[derive(Clone, Copy)]
+#[derive(Clone, Copy, PartialEq, Eq)]
 pub enum Command {
     Unknown,
     TestUnitReady, // 00h
@@ -48,39 +48,39 @@ const FLOPPY_CLASSES: [u8; 256] = [
 ];
 
 // The commands in the order of their classes.
-#[tactic(auto, unfolding(crate::specs::Commands::command_of_class))]
-fn command_of_class(class: u8) -> Command
-    ensures { result ≡ command_of_class class }
-{
-    match class {
-        1 => Command::TestUnitReady,
-        2 => Command::Rewind,
-        3 => Command::RequestSense,
-        4 => Command::Read,
-        5 => Command::Write,
-        6 => Command::WriteFilemarks,
-        7 => Command::Space,
-        8 => Command::Inquiry,
-        9 => Command::ModeSelect,
-        10 => Command::ModeSense,
-        11 => Command::LoadUnload,
-        12 => Command::Locate,
-        13 => Command::ReadPosition,
-        14 => Command::PreventAllow,
-        _ => Command::Unknown,
+impl From<u8> for Command {
+    ghost from_gives = { λ class command. command ≡ command_of_class class };
+
+    #[tactic(auto, unfolding(crate::specs::Commands::command_of_class))]
+    fn from(class: u8) -> Command {
+        match class {
+            1 => Command::TestUnitReady,
+            2 => Command::Rewind,
+            3 => Command::RequestSense,
+            4 => Command::Read,
+            5 => Command::Write,
+            6 => Command::WriteFilemarks,
+            7 => Command::Space,
+            8 => Command::Inquiry,
+            9 => Command::ModeSelect,
+            10 => Command::ModeSense,
+            11 => Command::LoadUnload,
+            12 => Command::Locate,
+            13 => Command::ReadPosition,
+            14 => Command::PreventAllow,
+            _ => Command::Unknown,
+        }
     }
 }
 
 pub fn stream_command(opcode: u8) -> Command
     ensures { result ≡ stream_command opcode }
 {
-    let i = opcode as usize;
-    command_of_class(STREAM_CLASSES[i])
+    Command::from(STREAM_CLASSES[opcode as usize])
 }
 
 pub fn floppy_command(opcode: u8) -> Command
     ensures { result ≡ floppy_command opcode }
 {
-    let i = opcode as usize;
-    command_of_class(FLOPPY_CLASSES[i])
+    Command::from(FLOPPY_CLASSES[opcode as usize])
 }

@@ -14,7 +14,7 @@ use Rattle.packet_state.specs.declared.state.Verdict.{Verdict}
 use Rattle.packet_state.specs.declared.state.Verdict.TheVariants.{Refuses, Ends, Works}
 use Rattle.packet_state.specs.Senses.{unit_attention, invalid_opcode, invalid_field, wrong_list_length, removal_prevented, not_loaded, write_protected}
 use Rattle.packet_parts.specs.declared.verdicts.Asked.{Asked}
-use Rattle.packet_parts.specs.Answers.{short_buffer}
+use Rattle.numbers.specs.declared.refusals.Refusal.TheVariants.{ShortBuffer}
 use Rattle.packet_parts.specs.Verdicts.{found_first, verdict_by, ends_early}
 
 -- the sense of what ends a packet before its work: of its keys 7, write protected, is the highest, and it has no information
@@ -24,7 +24,7 @@ Early x = (x.key ≤ 7) × (x.information ≤ 0)
 module _ (a : Asked) (protected : Bool) (st : State) (room : ℕ) where
   pub data Found : Verdict → Type 0 where
     found_early : (x : Sense) → ends_early a protected st ≡ true → Early x → Found (Ends x)
-    found-short : ends_early a protected st ≡ false → room < a.needed → Found (Refuses short_buffer)
+    found-short : ends_early a protected st ≡ false → room < a.needed → Found (Refuses ShortBuffer)
     found-clear : ends_early a protected st ≡ false → a.needed ≤ room → Found Works
 
   attention_early : (x : Attention) → Early (unit_attention x)

@@ -6,7 +6,7 @@ use Rattle.numbers.specs.Counts.{count_bytes}
 use Rattle.numbers.specs.Flags.{weight_of}
 use Rattle.numbers.specs.Over.{over}
 use Rattle.image.specs.declared.header.Header.{Header}
-use Rattle.packet_state.specs.declared.state.Ending.TheVariants.{Good}
+use Rattle.packet_state.specs.Answers.{Good}
 use Rattle.packet_state.specs.declared.state.Outcome.{Outcome}
 use Rattle.packet_state.specs.declared.state.Sense.{Sense}
 use Rattle.packet_state.specs.declared.state.State.{State}
@@ -78,7 +78,7 @@ device_page_bytes h st byte4 unit =
 unfoldable pub first_of : List ℕ → ℕ → List ℕ
 first_of bytes asked = take (min asked (length bytes)) bytes
 
-unfoldable pub reply_ends : List ℕ → ℕ → State → Outcome
+unfoldable pub reply_ends : List ℕ → ℕ → State → Outcome State
 reply_ends bytes asked st = ends st Good 0 (min asked (length bytes))
 
 -- the buffer with the first of the bytes at its start

@@ -1,16 +1,17 @@
 -- "Packet order: 1, 2, 3, attention, opcode, fields, not ready, protection, 4, list contents, the work.", for any packet device.
 -- Assumes nothing.
-use Rattle.std.specs.Prelude.{ℕ, Bool, not, List, length, if◌then◌else◌}
+use Rattle.std.specs.Prelude.{ℕ, Bool, not, List, length, if◌then◌else◌, None}
 use Rattle.numbers.specs.Choice.{◌≡ᵇ◌}
 use Rattle.image.specs.declared.header.Header.{Header}
-use Rattle.image.specs.declared.header.Judged.TheVariants.{Broken}
 use Rattle.image.specs.Header.{fields_of, refusal_of}
+use Rattle.numbers.specs.Refusals.{number_of}
+use Rattle.packet_state.specs.Answers.{refusal}
 use Rattle.packet_state.specs.declared.state.State.{State}
 use Rattle.packet_state.specs.declared.state.Verdict.{Verdict}
 use Rattle.packet_state.specs.declared.state.Verdict.TheVariants.{Refuses, Ends, Works}
 use Rattle.packet_parts.specs.declared.requests.Request.{Request}
 use Rattle.packet_parts.specs.declared.verdicts.Asked.{Asked}
-use Rattle.packet_parts.specs.Answers.{Left, refusal, answered, ended_before, check_condition, not_twelve_bytes, unruly_record}
+use Rattle.packet_parts.specs.Answers.{Left, answered, ended_before, check_condition, not_twelve_bytes, unruly_record}
 use Rattle.packet_parts.specs.Requests.{packet_length}
 use Rattle.packet_parts.specs.Verdicts.{is_protected, ends_early, verdict_by}
 
@@ -43,7 +44,7 @@ refuses st number s buf = record { answer = refusal number; state = st; image = 
 
 module _ {R : Type 0} (d : Device R) where
   unfoldable pub carried_out : Verdict → List ℕ → Header → R → Request → List ℕ → Left R
-  carried_out (Refuses number) s h st q buf = refuses st number s buf
+  carried_out (Refuses r) s h st q buf = refuses st (number_of r) s buf
   carried_out (Ends sense) s h st q buf =
       record { answer = answered check_condition 0 0; state = d.with_shared st (ended_before (d.shared st) sense); image = s; buf = buf }
   carried_out Works s h st q buf = d.work s h st q buf
@@ -63,6 +64,6 @@ module _ {R : Type 0} (d : Device R) where
   unfoldable pub answers_to : List ℕ → R → List ℕ → List ℕ → Left R
   answers_to s st packet buf =
       if not (length packet ≡ᵇ packet_length) then refuses st not_twelve_bytes s buf else
-      if not (d.accepts s) then refuses st (refusal_of Broken) s buf else
+      if not (d.accepts s) then refuses st (refusal_of None) s buf else
       if not (d.keeps_rules (fields_of s) st) then refuses st unruly_record s buf else
       decided s (fields_of s) st (d.request packet) buf

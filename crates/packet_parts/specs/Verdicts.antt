@@ -2,6 +2,7 @@
 -- Assumes nothing.
 use Rattle.std.specs.Prelude.{ℕ, Bool, true, false, not, ◌&&◌, ◌||◌, if◌then◌else◌}
 use Rattle.numbers.specs.Choice.{◌≡ᵇ◌, ◌<ᵇ◌}
+use Rattle.numbers.specs.declared.refusals.Refusal.TheVariants.{ShortBuffer}
 use Rattle.image.specs.declared.header.Header.{Header}
 use Rattle.packet_state.specs.declared.state.Attention.{Attention}
 use Rattle.packet_state.specs.declared.state.Attention.TheVariants.{Nothing, MediumChanged, Reset}
@@ -10,7 +11,6 @@ use Rattle.packet_state.specs.declared.state.Verdict.{Verdict}
 use Rattle.packet_state.specs.declared.state.Verdict.TheVariants.{Refuses, Ends, Works}
 use Rattle.packet_state.specs.Senses.{unit_attention, invalid_opcode, invalid_field, wrong_list_length, removal_prevented, not_loaded, write_protected}
 use Rattle.packet_parts.specs.declared.verdicts.Asked.{Asked}
-use Rattle.packet_parts.specs.Answers.{short_buffer}
 
 abbrev pub is_protected : Header → Bool
 is_protected h = h.protect ≡ᵇ 1
@@ -66,7 +66,7 @@ found_first attention held unknown field length barred absent kept short =
     if barred then Ends removal_prevented else
     if absent then Ends not_loaded else
     if kept then Ends write_protected else
-    if short then Refuses short_buffer else
+    if short then Refuses ShortBuffer else
     Works
 
 unfoldable pub verdict_by : Asked → Bool → State → ℕ → Verdict

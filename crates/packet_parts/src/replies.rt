@@ -7,8 +7,7 @@ use image::header::Header;
 use numbers::copying::copy_block;
 use numbers::counts::{put_count2, put_count4};
 use numbers::flags::weight_of;
-use numbers::sizes::least;
-use packet_state::state::{Ending, Outcome, Sense, State};
+use packet_state::state::{Outcome, Sense, State};
 
 pub const SENSE_LENGTH: usize = 20;
 
@@ -101,11 +100,11 @@ pub fn device_page(h: Header, state: State, byte4: u8, unit: u16) -> [u8; 20]
 }
 
 // The first of some bytes go to the start of the host's buffer.
-pub fn reply(bytes: &[u8], asked: u8, state: State, buf: &mut [u8]) -> Outcome
+pub fn reply(bytes: &[u8], asked: u8, state: State, buf: &mut [u8]) -> Outcome<State>
     requires { min asked (length bytes.now) ≤ length buf.old }
     ensures { (result ≡ reply_ends bytes.now asked state) × (buf.new ≡ replied_into bytes.now asked buf.old) }
 {
-    let n = least(asked as usize, bytes.len());
+    let n = (asked as usize).min(bytes.len());
     copy_block(buf, &bytes[..n]);
-    end(state, Ending::Good, 0, n as u32)
+    end(state, Ok(()), 0, n as u32)
 }

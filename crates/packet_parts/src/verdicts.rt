@@ -2,13 +2,12 @@
 ghost use Rattle.std.specs.Prelude.{◌≡◌};
 ghost use Rattle.packet_parts.specs.Verdicts.{no_command, always, settings, loading, on_tape, storing, is_held, found_first, verdict_by};
 
+use numbers::refusals::Refusal;
 use packet_state::senses::{
     invalid_field, invalid_opcode, not_loaded, removal_prevented, unit_attention, write_protected,
     wrong_list_length,
 };
 use packet_state::state::{Attention, State, Verdict};
-
-const SHORT_BUFFER: u8 = 4;
 
 // What a command asks before its work.
 #[derive(Clone, Copy)]
@@ -44,12 +43,8 @@ pub fn always(needed: usize) -> Asked
     Asked {
         known: true,
         exempt: true,
-        field: false,
-        length: false,
-        unloads: false,
-        mounted: false,
-        stores: false,
         needed,
+        ..no_command()
     }
 }
 
@@ -58,13 +53,10 @@ pub fn settings(field: bool, length: bool, needed: usize) -> Asked
 {
     Asked {
         known: true,
-        exempt: false,
         field,
         length,
-        unloads: false,
-        mounted: false,
-        stores: false,
         needed,
+        ..no_command()
     }
 }
 
@@ -73,13 +65,9 @@ pub fn loading(field: bool, unloads: bool) -> Asked
 {
     Asked {
         known: true,
-        exempt: false,
         field,
-        length: false,
         unloads,
-        mounted: false,
-        stores: false,
-        needed: 0,
+        ..no_command()
     }
 }
 
@@ -88,13 +76,10 @@ pub fn on_tape(field: bool, needed: usize) -> Asked
 {
     Asked {
         known: true,
-        exempt: false,
         field,
-        length: false,
-        unloads: false,
         mounted: true,
-        stores: false,
         needed,
+        ..no_command()
     }
 }
 
@@ -102,14 +87,8 @@ pub fn storing(field: bool, needed: usize) -> Asked
     ensures { result ≡ storing field needed }
 {
     Asked {
-        known: true,
-        exempt: false,
-        field,
-        length: false,
-        unloads: false,
-        mounted: true,
         stores: true,
-        needed,
+        ..on_tape(field, needed)
     }
 }
 
@@ -117,11 +96,7 @@ pub fn storing(field: bool, needed: usize) -> Asked
 fn is_held(attention: Attention, exempt: bool) -> bool
     ensures { result ≡ is_held attention exempt }
 {
-    match attention {
-        Attention::Nothing => false,
-        Attention::MediumChanged => !exempt,
-        Attention::Reset => !exempt,
-    }
+    (attention != Attention::Nothing) & !exempt
 }
 
 // The first that holds, in 01's order, the lock after the fields.
@@ -161,7 +136,7 @@ fn found_first(
         return Verdict::Ends(write_protected());
     }
     if short {
-        return Verdict::Refuses(SHORT_BUFFER);
+        return Verdict::Refuses(Refusal::ShortBuffer);
     }
     Verdict::Works
 }

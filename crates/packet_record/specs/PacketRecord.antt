@@ -1,21 +1,15 @@
 -- The packet drive's record and answer in bytes. Numbers are big-endian; reserved bits and bytes are ignored and written as 0.
 -- Assumes nothing.
-use Rattle.std.specs.Prelude.{ℕ, ◌+◌, List, ◌∷◌, ◌++◌, get_or, if◌then◌else◌}
-use Rattle.numbers.specs.Choice.{◌≡ᵇ◌}
+use Rattle.std.specs.Prelude.{ℕ, ◌+◌, List, ◌∷◌, ◌++◌, get_or}
 use Rattle.numbers.specs.Counts.{count_at, count_bytes}
-use Rattle.packet_state.specs.declared.state.Answer.{Answer}
 use Rattle.packet_state.specs.declared.state.Attention.{Attention}
 use Rattle.packet_state.specs.declared.state.Attention.TheVariants.{Nothing, MediumChanged, Reset}
 use Rattle.packet_state.specs.declared.state.State.{State}
+use Rattle.packet_state.specs.Answers.{Answer}
+use Rattle.packet_state.specs.States.{attention_of}
 use Rattle.numbers.specs.Flags.{is_set, weight_of}
 
--- "attention: 0 none, 1 medium changed, 2 reset"; any other byte is read as 0
-unfoldable pub attention_of : ℕ → Attention
-attention_of byte =
-    if byte ≡ᵇ 1 then MediumChanged else
-    if byte ≡ᵇ 2 then Reset else
-    Nothing
-
+-- "attention: 0 none, 1 medium changed, 2 reset"
 abbrev pub attention_byte : Attention → ℕ
 attention_byte Nothing = 0
 attention_byte MediumChanged = 1

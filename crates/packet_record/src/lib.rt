@@ -2,32 +2,14 @@
 #![tactic(auto)]
 
 ghost use Rattle.std.specs.Prelude.{◌≡◌, ◌≤◌, length};
-ghost use Rattle.packet_record.specs.PacketRecord.{attention_of, attention_byte, decode_state, encode_state, encode_answer};
+ghost use Rattle.packet_record.specs.PacketRecord.{decode_state, encode_state, encode_answer};
+ghost use Rattle.packet_state.specs.Answers.{accepted, refusal, answer_of};
+ghost use Rattle.numbers.specs.Refusals.{number_of};
 
 use numbers::counts::{count2, count4, put_count2, put_count4};
 use numbers::flags::{is_set, weight_of};
-use packet_state::state::{Answer, Attention, Sense, State};
-
-#[tactic(auto, unfolding(crate::specs::PacketRecord::attention_of))]
-fn attention_of(byte: u8) -> Attention
-    ensures { result ≡ attention_of byte }
-{
-    match byte {
-        1 => Attention::MediumChanged,
-        2 => Attention::Reset,
-        _ => Attention::Nothing,
-    }
-}
-
-fn attention_byte(attention: Attention) -> u8
-    ensures { result ≡ attention_byte attention }
-{
-    match attention {
-        Attention::Nothing => 0,
-        Attention::MediumChanged => 1,
-        Attention::Reset => 2,
-    }
-}
+use numbers::refusals::Refusal;
+use packet_state::state::{Attention, Sense, State, Told};
 
 #[tactic(auto, unfolding(crate::specs::PacketRecord::decode_state))]
 pub fn decode_state(bytes: &[u8]) -> State
@@ -49,7 +31,7 @@ pub fn decode_state(bytes: &[u8]) -> State
         position: count4(bytes, 0),
         loaded: is_set(door, 1),
         locked: is_set(door, 2),
-        attention: attention_of(bytes[5]),
+        attention: Attention::from(bytes[5]),
         speed: count2(bytes, 6),
         sense,
     }
@@ -59,14 +41,13 @@ pub fn decode_state(bytes: &[u8]) -> State
 pub fn encode_state(state: State) -> [u8; 16]
     ensures { result ≡ encode_state state }
 {
-    let attention = state.attention;
     let sense = state.sense;
     let door = weight_of(state.loaded, 1) + weight_of(state.locked, 2);
     let flags = weight_of(sense.valid, 1) + weight_of(sense.eom, 2) + weight_of(sense.filemark, 4);
     let mut bytes = [0; 16];
     put_count4(&mut bytes, 0, state.position);
     bytes[4] = door;
-    bytes[5] = attention_byte(attention);
+    bytes[5] = state.attention as u8;
     put_count2(&mut bytes, 6, state.speed);
     bytes[8] = sense.key;
     bytes[9] = sense.asc;
@@ -77,14 +58,31 @@ pub fn encode_state(state: State) -> [u8; 16]
 }
 
 #[tactic(auto, unfolding(crate::specs::PacketRecord::encode_answer))]
-pub fn encode_answer(answer: Answer) -> [u8; 16]
-    ensures { result ≡ encode_answer answer }
+fn encode_told(told: Told) -> [u8; 16]
+    ensures { result ≡ encode_answer (accepted told) }
 {
     let mut bytes = [0; 16];
-    bytes[0] = answer.number;
-    bytes[1] = answer.status;
-    put_count4(&mut bytes, 4, answer.blocks);
-    put_count4(&mut bytes, 8, answer.bytes);
-    put_count4(&mut bytes, 12, answer.marked);
+    bytes[1] = told.status;
+    put_count4(&mut bytes, 4, told.blocks);
+    put_count4(&mut bytes, 8, told.bytes);
+    put_count4(&mut bytes, 12, told.marked);
     bytes
+}
+
+#[tactic(auto, unfolding(crate::specs::PacketRecord::encode_answer))]
+fn encode_refusal(why: Refusal) -> [u8; 16]
+    ensures { result ≡ encode_answer (refusal (number_of why)) }
+{
+    let mut bytes = [0; 16];
+    bytes[0] = u8::from(why);
+    bytes
+}
+
+pub fn encode_answer(answer: Result<Told, Refusal>) -> [u8; 16]
+    ensures { result ≡ encode_answer (answer_of answer) }
+{
+    match answer {
+        Ok(told) => encode_told(told),
+        Err(why) => encode_refusal(why),
+    }
 }

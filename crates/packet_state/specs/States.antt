@@ -1,14 +1,21 @@
 -- 01: "Record: position P; loaded; attention (none, medium changed, reset); speed; sense (key, ASC, ASCQ, filemark, EOM, valid, information)."
 -- 02, A8: "The packet record gains a locked flag, false when fresh and kept through a cartridge change."
 -- Assumes nothing.
-use Rattle.std.specs.Prelude.{ℕ, Bool, true, false, ◌&&◌, List, [], ◌∷◌}
-use Rattle.numbers.specs.Choice.{◌≤ᵇ◌}
+use Rattle.std.specs.Prelude.{ℕ, Bool, true, false, ◌&&◌, List, [], ◌∷◌, if◌then◌else◌}
+use Rattle.numbers.specs.Choice.{◌≡ᵇ◌, ◌≤ᵇ◌}
 use Rattle.numbers.specs.Member.{is_in}
 use Rattle.packet_state.specs.declared.state.Attention.{Attention}
-use Rattle.packet_state.specs.declared.state.Attention.TheVariants.{MediumChanged, Reset}
+use Rattle.packet_state.specs.declared.state.Attention.TheVariants.{Nothing, MediumChanged, Reset}
 use Rattle.packet_state.specs.declared.state.Sense.{Sense}
 use Rattle.packet_state.specs.declared.state.State.{State}
 use Rattle.packet_state.specs.Senses.{no_sense}
+
+-- "attention: 0 none, 1 medium changed, 2 reset"; any other byte is read as 0
+unfoldable pub attention_of : ℕ → Attention
+attention_of byte =
+    if byte ≡ᵇ 1 then MediumChanged else
+    if byte ≡ᵇ 2 then Reset else
+    Nothing
 
 -- ---- the record with one part replaced
 

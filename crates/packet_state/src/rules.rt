@@ -16,10 +16,9 @@ pub fn is_speed(speed: u16) -> bool
     is_in(speed, &SPEEDS)
 }
 
+#[tactic(auto, unfolding(crate::specs::States::keeps_record_rules))]
 pub fn keeps_record_rules(end: u32, state: State) -> bool
     ensures { result ≡ keeps_record_rules end state }
 {
-    let speed = state.speed;
-    let known = is_speed(speed);
-    (state.position <= end) & known & (state.sense.key <= HIGHEST_KEY)
+    (state.position <= end) & is_speed(state.speed) & (state.sense.key <= HIGHEST_KEY)
 }

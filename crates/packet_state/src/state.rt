@@ -1,14 +1,29 @@
 // 01, "The packet record and answers".
 ghost use Rattle.std.specs.Prelude.{◌≡◌};
-ghost use Rattle.packet_state.specs.States.{at_place, with_loaded, with_locked, with_attention, with_speed, with_sense, fresh_state, changed_state};
+ghost use Rattle.packet_state.specs.States.{attention_of, at_place, with_loaded, with_locked, with_attention, with_speed, with_sense};
+ghost use Rattle.packet_state.specs.States.{fresh_state, changed_state};
 
 use crate::senses::no_sense;
+use numbers::refusals::Refusal;
 
-#[derive(Clone, Copy)]
+#[derive(Clone, Copy, PartialEq, Eq)]
 pub enum Attention {
-    Nothing,
-    MediumChanged,
-    Reset,
+    Nothing = 0,
+    MediumChanged = 1,
+    Reset = 2,
+}
+
+impl From<u8> for Attention {
+    ghost from_gives = { λ byte attention. attention ≡ attention_of byte };
+
+    #[tactic(auto, unfolding(crate::specs::States::attention_of))]
+    fn from(byte: u8) -> Attention {
+        match byte {
+            1 => Attention::MediumChanged,
+            2 => Attention::Reset,
+            _ => Attention::Nothing,
+        }
+    }
 }
 
 #[derive(Clone, Copy)]
@@ -32,114 +47,96 @@ pub struct State {
     pub sense: Sense,
 }
 
+// What the answer tells of a packet that is not refused.
 #[derive(Clone, Copy)]
-pub struct Answer {
-    pub number: u8, // the refusal's number, 0 where the packet is answered
+pub struct Told {
     pub status: u8,
     pub blocks: u32,
     pub bytes: u32,
     pub marked: u32, // 02, A6: of the blocks that a READ copied
 }
 
+// What a packet that is not refused leaves of a device with the record R.
 #[derive(Clone, Copy)]
-pub struct Outcome {
-    pub answer: Answer,
-    pub state: State,
+pub struct Outcome<R> {
+    pub answer: Told,
+    pub state: R,
 }
 
-// How a packet that is answered ends.
-#[derive(Clone, Copy)]
-pub enum Ending {
-    Good,
-    Check(Sense),
-}
+// How a packet that is answered ends: GOOD, or CHECK CONDITION with this sense.
+pub type Ending = Result<(), Sense>;
 
 // What is found before the work.
 #[derive(Clone, Copy)]
 pub enum Verdict {
-    Refuses(u8),
+    Refuses(Refusal),
     Ends(Sense),
     Works,
 }
 
-// ---- the record with one part replaced
+impl State {
+    // ---- the record with one part replaced
 
-pub fn stand_at(state: State, place: u32) -> State
-    ensures { result ≡ at_place state place }
-{
-    let mut next = state;
-    next.position = place;
-    next
-}
-
-pub fn with_loaded(state: State, loaded: bool) -> State
-    ensures { result ≡ with_loaded state loaded }
-{
-    let mut next = state;
-    next.loaded = loaded;
-    next
-}
-
-pub fn with_locked(state: State, locked: bool) -> State
-    ensures { result ≡ with_locked state locked }
-{
-    let mut next = state;
-    next.locked = locked;
-    next
-}
-
-pub fn with_attention(state: State, attention: Attention) -> State
-    ensures { result ≡ with_attention state attention }
-{
-    let sense = state.sense;
-    State {
-        position: state.position,
-        loaded: state.loaded,
-        locked: state.locked,
-        attention,
-        speed: state.speed,
-        sense,
+    pub fn at_place(self, position: u32) -> State
+        ensures { result ≡ at_place self position }
+    {
+        State { position, ..self }
     }
-}
 
-pub fn with_speed(state: State, speed: u16) -> State
-    ensures { result ≡ with_speed state speed }
-{
-    let mut next = state;
-    next.speed = speed;
-    next
-}
-
-pub fn with_sense(state: State, sense: Sense) -> State
-    ensures { result ≡ with_sense state sense }
-{
-    let mut next = state;
-    next.sense = sense;
-    next
-}
-
-// ---- the records that 01 names
-
-// 01: "Fresh: P 0, loaded, attention reset, speed 0, sense zero."; 02, A2: "The fresh record's speed becomes 250 instead of 0."; A8: "a locked flag, false
-// when fresh".
-pub fn fresh_state() -> State
-    ensures { result ≡ fresh_state }
-{
-    State {
-        position: 0,
-        loaded: true,
-        locked: false,
-        attention: Attention::Reset,
-        speed: 250,
-        sense: no_sense(),
+    pub fn with_loaded(self, loaded: bool) -> State
+        ensures { result ≡ with_loaded self loaded }
+    {
+        State { loaded, ..self }
     }
-}
 
-// 01: "Changing the cartridge (never refused) sets only P 0, loaded, attention medium changed, sense zero."; 02, A8: the locked flag is "kept".
-pub fn changed_state(state: State) -> State
-    ensures { result ≡ changed_state state }
-{
-    let started = with_loaded(stand_at(state, 0), true);
-    let told = with_attention(started, Attention::MediumChanged);
-    with_sense(told, no_sense())
+    pub fn with_locked(self, locked: bool) -> State
+        ensures { result ≡ with_locked self locked }
+    {
+        State { locked, ..self }
+    }
+
+    pub fn with_attention(self, attention: Attention) -> State
+        ensures { result ≡ with_attention self attention }
+    {
+        State { attention, ..self }
+    }
+
+    pub fn with_speed(self, speed: u16) -> State
+        ensures { result ≡ with_speed self speed }
+    {
+        State { speed, ..self }
+    }
+
+    pub fn with_sense(self, sense: Sense) -> State
+        ensures { result ≡ with_sense self sense }
+    {
+        State { sense, ..self }
+    }
+
+    // ---- the records that 01 names
+
+    // 01: "Fresh: P 0, loaded, attention reset, speed 0, sense zero."; 02, A2: "The fresh record's speed becomes 250 instead of 0."; A8: "a locked flag,
+    // false when fresh".
+    pub fn fresh() -> State
+        ensures { result ≡ fresh_state }
+    {
+        State {
+            position: 0,
+            loaded: true,
+            locked: false,
+            attention: Attention::Reset,
+            speed: 250,
+            sense: no_sense(),
+        }
+    }
+
+    // 01: "Changing the cartridge (never refused) sets only P 0, loaded, attention medium changed, sense zero."; 02, A8: the locked flag is "kept".
+    pub fn changed(self) -> State
+        ensures { result ≡ changed_state self }
+    {
+        self.at_place(0)
+            .with_loaded(true)
+            .with_attention(Attention::MediumChanged)
+            .with_sense(no_sense())
+    }
 }

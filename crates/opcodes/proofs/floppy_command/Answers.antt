@@ -15,4 +15,4 @@ classes =
 
 pub returns : goal.returns
 unfolding classes floppy_command
-returns c = by_table floppy_commands classes c.args.opcode _ c.command_of_class.ensures (search rules) tt
+returns c = by_table floppy_commands classes c.args.opcode _ c.from.ensures (search rules) tt

@@ -15,4 +15,4 @@ classes =
 
 pub returns : goal.returns
 unfolding classes stream_command
-returns c = by_table stream_commands classes c.args.opcode _ c.command_of_class.ensures (search rules) tt
+returns c = by_table stream_commands classes c.args.opcode _ c.from.ensures (search rules) tt
