@@ -10,7 +10,6 @@ use Rattle.packet_parts.specs.Replies.{short_list}
 use Rattle.floppy_parts.specs.declared.tape.Reported.{Reported}
 use Rattle.floppy_parts.specs.declared.tape.Tape.{Tape}
 use Rattle.floppy_parts.specs.declared.tape.Floppy.{Floppy}
-use Rattle.floppy_parts.specs.declared.tape.FloppyOutcome.{FloppyOutcome}
 
 -- "BSEG*SEGTRK*TRKS": the blocks that the device has
 unfoldable pub product : Tape → ℕ
@@ -64,11 +63,8 @@ abbrev pub with_shared : Floppy → State → Floppy
 with_shared f shared = floppy_of shared f.tape
 
 -- what was done with the shared record, beside these tape parameters
-abbrev pub joined : Outcome → Tape → FloppyOutcome
+abbrev pub joined : Outcome State → Tape → Outcome Floppy
 joined out tape = record { answer = out.answer; state = floppy_of out.state tape }
-
-abbrev pub leaves : FloppyOutcome → List ℕ → List ℕ → Left Floppy
-leaves out image buf = record { answer = out.answer; state = out.state; image = image; buf = buf }
 
 abbrev pub beside : Left State → Tape → Left Floppy
 beside x tape = record { answer = x.answer; state = floppy_of x.state tape; image = x.image; buf = x.buf }

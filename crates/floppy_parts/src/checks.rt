@@ -6,7 +6,6 @@ ghost use Rattle.floppy_parts.specs.Checks.{bad_length, bad_page, asked_by};
 use crate::replies::{TAPE_LIST, TAPE_PAGE, mode_length};
 use image::header::Header;
 use numbers::flags::is_set;
-use numbers::sizes::least;
 use opcodes::Command;
 use packet_parts::replies::{
     DEVICE_PAGE, FULL_LIST, HEADER_ALONE, INQUIRY_LENGTH, SENSE_LENGTH, SHORT_LIST,
@@ -17,32 +16,33 @@ use packet_parts::verdicts::{
 };
 use packet_state::state::{State, Verdict};
 
+// Lengths and pages of its own: a pattern here is plainer than a table handed to one check for both devices.
 fn bad_length(length: usize) -> bool
     ensures { result ≡ bad_length length }
 {
-    !((length == 0) | (length == SHORT_LIST) | (length == TAPE_LIST) | (length == FULL_LIST))
+    !matches!(length, 0 | SHORT_LIST | TAPE_LIST | FULL_LIST)
 }
 
 fn bad_page(page: u8) -> bool
     ensures { result ≡ bad_page page }
 {
-    !((page == HEADER_ALONE) | (page == DEVICE_PAGE) | (page == TAPE_PAGE))
+    !matches!(page, HEADER_ALONE | DEVICE_PAGE | TAPE_PAGE)
 }
 
 #[tactic(auto, unfolding(crate::specs::Checks::asked_by))]
-fn asked_by(command: Command, h: Header, end: u32, q: Request) -> Asked
-    ensures { result ≡ asked_by command h end q }
+fn asked_by(h: Header, end: u32, q: Request) -> Asked
+    ensures { result ≡ asked_by q.command h end q }
 {
-    let n = q.length as usize;
-    match command {
+    let room = q.length as usize;
+    match q.command {
         Command::TestUnitReady => on_tape(false, 0),
-        Command::RequestSense => always(least(n, SENSE_LENGTH)),
+        Command::RequestSense => always(room.min(SENSE_LENGTH)),
         Command::Read => on_tape(!is_set(q.flags, 1), transfer_bytes(q.length as u32, h.size)),
         Command::Write => storing(!is_set(q.flags, 1), transfer_bytes(q.length as u32, h.size)),
         Command::WriteFilemarks => storing(false, 0),
-        Command::Inquiry => always(least(n, INQUIRY_LENGTH)),
-        Command::ModeSelect => settings(false, bad_length(n), n),
-        Command::ModeSense => settings(bad_page(q.page % 64), false, least(n, mode_length(q.page))),
+        Command::Inquiry => always(room.min(INQUIRY_LENGTH)),
+        Command::ModeSelect => settings(false, bad_length(room), room),
+        Command::ModeSense => settings(bad_page(q.page % 64), false, room.min(mode_length(q.page))),
         Command::LoadUnload => loading(false, !is_set(q.length, 1)),
         Command::Locate => on_tape(end <= q.target, 0),
         Command::PreventAllow => settings(false, false, 0),
@@ -53,6 +53,5 @@ fn asked_by(command: Command, h: Header, end: u32, q: Request) -> Asked
 pub fn verdict(h: Header, state: State, end: u32, q: Request, room: usize) -> Verdict
     ensures { result ≡ verdict_by (asked_by q.command h end q) (is_protected h) state room }
 {
-    let command = q.command;
-    verdict_by(asked_by(command, h, end, q), h.protect == 1, state, room)
+    verdict_by(asked_by(h, end, q), h.protect == 1, state, room)
 }

@@ -2,16 +2,11 @@
 ghost use Rattle.std.specs.Prelude.{◌≡◌};
 ghost use Rattle.floppy_parts.specs.Headers.{full_header_of};
 
-use image::header::{Judged, header_of};
+use image::header::{Header, header_of};
 
-pub fn full_header_of(image: &[u8]) -> Judged
+#[tactic(auto, unfolding(crate::specs::Headers::full_header_of, crate::specs::Headers::is_full, image::specs::Header::header_of))]
+pub fn full_header_of(image: &[u8]) -> Option<Header>
     ensures { result ≡ full_header_of image.now }
 {
-    let Judged::Good(h) = header_of(image) else {
-        return Judged::Broken;
-    };
-    if h.recorded < h.capacity {
-        return Judged::Broken;
-    }
-    Judged::Good(h)
+    header_of(image).filter(|h| h.recorded >= h.capacity)
 }

@@ -2,7 +2,7 @@
 ghost use Rattle.std.specs.Prelude.{◌≡◌, ◌%◌};
 ghost use Rattle.floppy_parts.specs.Replies.{length_for, tape_page_bytes, tape_mode};
 
-use crate::tape::{Tape, flags_byte};
+use crate::tape::Tape;
 use image::header::Header;
 use numbers::copying::copy_block;
 use numbers::counts::put_count2;
@@ -20,22 +20,17 @@ const AFTER_TAPE: u8 = 27;
 pub fn mode_length(page: u8) -> usize
     ensures { result ≡ length_for (page % 64) }
 {
-    let device = page % 64 == DEVICE_PAGE;
-    if device {
-        return FULL_LIST;
+    match page % 64 {
+        DEVICE_PAGE => FULL_LIST,
+        TAPE_PAGE => TAPE_LIST,
+        _ => SHORT_LIST,
     }
-    let tape = page % 64 == TAPE_PAGE;
-    if tape {
-        return TAPE_LIST;
-    }
-    SHORT_LIST
 }
 
 pub fn tape_page(tape: Tape) -> [u8; 16]
     ensures { result ≡ tape_page_bytes tape }
 {
     let x = tape.reported;
-    let flags = flags_byte(x);
     let mut bytes = [0; 16];
     bytes[0] = TAPE_PAGE;
     bytes[1] = TAPE_PAGE_LENGTH;
@@ -47,7 +42,7 @@ pub fn tape_page(tape: Tape) -> [u8; 16]
     bytes[10] = x.sector;
     bytes[11] = x.cylinder;
     bytes[12] = x.head;
-    bytes[15] = flags;
+    bytes[15] = x.flags_byte();
     bytes
 }
 

@@ -2,7 +2,7 @@
 ghost use Rattle.std.specs.Prelude.{◌≡◌};
 ghost use Rattle.floppy_parts.specs.Rules.{keeps_floppy_rules};
 
-use crate::tape::{Floppy, product_of};
+use crate::tape::Floppy;
 use image::header::Header;
 use packet_state::rules::keeps_record_rules;
 
@@ -10,9 +10,8 @@ use packet_state::rules::keeps_record_rules;
 pub fn keeps_floppy_rules(h: Header, floppy: Floppy) -> bool
     ensures { result ≡ keeps_floppy_rules h floppy }
 {
-    let shared = floppy.shared;
-    let tape = floppy.tape;
-    let product = product_of(tape);
-    let ruly = keeps_record_rules(h.recorded, shared);
-    ruly & (product <= h.capacity as u64) & (shared.position as u64 <= product)
+    let product = floppy.tape.product();
+    keeps_record_rules(h.recorded, floppy.shared)
+        & (product <= h.capacity as u64)
+        & (floppy.shared.position as u64 <= product)
 }

@@ -5,7 +5,7 @@ ghost use Rattle.floppy_parts.specs.Settings.{good_tape_list, selected_tape, loa
 ghost use Rattle.floppy_parts.specs.Tape.{product};
 
 use crate::replies::{TAPE_LIST, TAPE_PAGE, TAPE_PAGE_LENGTH};
-use crate::tape::{Tape, listed_tape, product_of, reset_tape};
+use crate::tape::Tape;
 use image::header::Header;
 use numbers::flags::is_set;
 use opcodes::Command;
@@ -17,10 +17,9 @@ pub fn is_good_tape_list(h: Header, list: &[u8]) -> bool
     requires { 28 ≤ length list.now }
     ensures { result ≡ good_tape_list h list.now }
 {
-    let listed = product_of(listed_tape(list));
     (list[SHORT_LIST] == TAPE_PAGE)
         & (list[SHORT_LIST + 1] == TAPE_PAGE_LENGTH)
-        & (listed <= h.capacity as u64)
+        & (Tape::listed(list).product() <= h.capacity as u64)
 }
 
 #[tactic(auto, unfolding(crate::specs::Settings::selected_tape))]
@@ -28,12 +27,8 @@ fn selected_tape(h: Header, tape: Tape, asked: u8, list: &[u8]) -> Tape
     requires { asked ≤ length list.now }
     ensures { result ≡ selected_tape h tape asked list.now }
 {
-    let parameters = asked as usize == TAPE_LIST;
-    if parameters {
-        let good = is_good_tape_list(h, list);
-        if good {
-            return listed_tape(list);
-        }
+    if asked as usize == TAPE_LIST && is_good_tape_list(h, list) {
+        return Tape::listed(list);
     }
     tape
 }
@@ -44,10 +39,7 @@ fn loaded_tape(h: Header, tape: Tape, load: bool) -> Tape
     requires { h.capacity ≤ 65535 }
     ensures { result ≡ loaded_tape h tape load }
 {
-    if load {
-        return reset_tape(h.capacity);
-    }
-    tape
+    if load { Tape::reset(h.capacity) } else { tape }
 }
 
 #[tactic(auto, unfolding(crate::specs::Checks::asked_by, crate::specs::Settings::tape_after))]
@@ -56,8 +48,7 @@ pub fn tape_after(h: Header, tape: Tape, q: Request, list: &[u8]) -> Tape
     requires q_in_bounds { (asked_by q.command h (product tape) q).needed ≤ length list.now }
     ensures { result ≡ tape_after q.command h tape q list.now }
 {
-    let command = q.command;
-    match command {
+    match q.command {
         Command::ModeSelect => selected_tape(h, tape, q.length, list),
         Command::LoadUnload => loaded_tape(h, tape, is_set(q.length, 1)),
         _ => tape,

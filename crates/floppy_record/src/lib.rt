@@ -4,7 +4,7 @@
 ghost use Rattle.std.specs.Prelude.{◌≡◌, ◌≤◌, length};
 ghost use Rattle.floppy_record.specs.FloppyRecord.{decode_tape, decode_floppy, encode_tape, encode_floppy};
 
-use floppy_parts::tape::{Floppy, Tape, flags_byte, floppy_of, reported_of};
+use floppy_parts::tape::{Floppy, Reported, Tape};
 use numbers::copying::copy_block;
 use numbers::counts::{count2, put_count2};
 use packet_record::{decode_state, encode_state};
@@ -14,9 +14,14 @@ fn decode_tape(bytes: &[u8]) -> Tape
     requires { 32 ≤ length bytes.now }
     ensures { result ≡ decode_tape bytes.now }
 {
-    let reported = reported_of(
-        bytes[16], bytes[17], bytes[24], bytes[25], bytes[26], bytes[19],
-    );
+    let reported = Reported {
+        density: bytes[16],
+        fill: bytes[17],
+        sector: bytes[24],
+        cylinder: bytes[25],
+        head: bytes[26],
+        ..Reported::flagged(bytes[19])
+    };
     Tape {
         bseg: bytes[18],
         segtrk: count2(bytes, 20),
@@ -30,7 +35,10 @@ pub fn decode_floppy(bytes: &[u8]) -> Floppy
     requires { 32 ≤ length bytes.now }
     ensures { result ≡ decode_floppy bytes.now }
 {
-    floppy_of(decode_state(bytes), decode_tape(bytes))
+    Floppy {
+        shared: decode_state(bytes),
+        tape: decode_tape(bytes),
+    }
 }
 
 #[tactic(auto, unfolding(crate::specs::FloppyRecord::encode_tape))]
@@ -38,12 +46,11 @@ fn encode_tape(tape: Tape) -> [u8; 16]
     ensures { result ≡ encode_tape tape }
 {
     let x = tape.reported;
-    let flags = flags_byte(x);
     let mut bytes = [0; 16];
     bytes[0] = x.density;
     bytes[1] = x.fill;
     bytes[2] = tape.bseg;
-    bytes[3] = flags;
+    bytes[3] = x.flags_byte();
     put_count2(&mut bytes, 4, tape.segtrk);
     put_count2(&mut bytes, 6, tape.trks);
     bytes[8] = x.sector;

@@ -1,17 +1,21 @@
 -- "Packet order: 1, 2, 3, attention, opcode, fields, not ready, protection, 4, list contents, the work.", for any packet device.
 -- Assumes nothing.
-use Rattle.std.specs.Prelude.{ℕ, Bool, not, List, length, if◌then◌else◌, None}
+use Rattle.std.specs.Prelude.{ℕ, Bool, not, List, length, ◌≡◌, true, if◌then◌else◌, Option, Some, None, Result, Ok, Err}
 use Rattle.numbers.specs.Choice.{◌≡ᵇ◌}
 use Rattle.image.specs.declared.header.Header.{Header}
-use Rattle.image.specs.Header.{fields_of, refusal_of}
+use Rattle.image.specs.Header.{fields_of, header_of, refusal_of}
+use Rattle.numbers.specs.declared.refusals.Refusal.{Refusal}
+use Rattle.numbers.specs.declared.refusals.Refusal.TheVariants.{NotTwelveBytes, BrokenImage, UnrulyRecord}
 use Rattle.numbers.specs.Refusals.{number_of}
 use Rattle.packet_state.specs.Answers.{refusal}
+use Rattle.packet_state.specs.declared.state.Outcome.{Outcome}
+use Rattle.packet_state.specs.declared.state.Sense.{Sense}
 use Rattle.packet_state.specs.declared.state.State.{State}
 use Rattle.packet_state.specs.declared.state.Verdict.{Verdict}
 use Rattle.packet_state.specs.declared.state.Verdict.TheVariants.{Refuses, Ends, Works}
 use Rattle.packet_parts.specs.declared.requests.Request.{Request}
 use Rattle.packet_parts.specs.declared.verdicts.Asked.{Asked}
-use Rattle.packet_parts.specs.Answers.{Left, answered, ended_before, check_condition, not_twelve_bytes, unruly_record}
+use Rattle.packet_parts.specs.Answers.{Left, told, answered, ended_before, check_condition, not_twelve_bytes, unruly_record}
 use Rattle.packet_parts.specs.Requests.{packet_length}
 use Rattle.packet_parts.specs.Verdicts.{is_protected, ends_early, verdict_by}
 
@@ -24,6 +28,16 @@ pub record Device (R : Type 0) : Type 0 where
   pub request : List ℕ → Request
   pub asks : Header → R → Request → Asked
   pub work : List ℕ → Header → R → Request → List ℕ → Left R
+
+-- the header of an image that the device takes
+abbrev pub accepted_header : {R : Type 0} → Device R → List ℕ → Option Header
+accepted_header d s = if d.accepts s then Some (fields_of s) else None
+
+-- what a packet has passed when it is judged: the device takes the image, whose header is h, and the record keeps the device's rules
+pub record Begun {R : Type 0} (d : Device R) (s : List ℕ) (h : Header) (st : R) : Type 0 where
+  pub taken : accepted_header d s ≡ Some h
+  pub header : header_of s ≡ Some h
+  pub ruled : d.keeps_rules h st ≡ true
 
 -- the same device with another work
 abbrev pub with_work : {R : Type 0} → Device R → (List ℕ → Header → R → Request → List ℕ → Left R) → Device R
@@ -48,6 +62,18 @@ module _ {R : Type 0} (d : Device R) where
   carried_out (Ends sense) s h st q buf =
       record { answer = answered check_condition 0 0; state = d.with_shared st (ended_before (d.shared st) sense); image = s; buf = buf }
   carried_out Works s h st q buf = d.work s h st q buf
+
+  -- an ending before the work "changes only sense and attention"
+  abbrev pub ended_early : R → Sense → Outcome R
+  ended_early st sense = record { answer = told check_condition 0 0; state = d.with_shared st (ended_before (d.shared st) sense) }
+
+  -- refusals 1 to 3, or the header of the image
+  unfoldable pub begun : List ℕ → R → List ℕ → Result Header Refusal
+  begun s st packet =
+      if not (length packet ≡ᵇ packet_length) then Err NotTwelveBytes else
+      if not (d.accepts s) then Err BrokenImage else
+      if not (d.keeps_rules (fields_of s) st) then Err UnrulyRecord else
+      Ok (fields_of s)
 
   -- what is found before the work
   abbrev pub found_by : Header → R → Request → ℕ → Verdict

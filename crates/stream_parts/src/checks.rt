@@ -7,7 +7,6 @@ use crate::replies::{POSITION_LENGTH, mode_length};
 use crate::requests::{OVER_BLOCKS, OVER_FILEMARKS, TO_END_OF_DATA};
 use image::header::Header;
 use numbers::flags::is_set;
-use numbers::sizes::least;
 use opcodes::Command;
 use packet_parts::replies::{
     DEVICE_PAGE, FULL_LIST, HEADER_ALONE, INQUIRY_LENGTH, SENSE_LENGTH, SHORT_LIST,
@@ -21,42 +20,37 @@ use packet_state::state::{State, Verdict};
 fn bad_code(code: u8) -> bool
     ensures { result ≡ bad_code code }
 {
-    !((code == OVER_BLOCKS) | (code == OVER_FILEMARKS) | (code == TO_END_OF_DATA))
+    !matches!(code, OVER_BLOCKS | OVER_FILEMARKS | TO_END_OF_DATA)
 }
 
 fn bad_length(length: usize) -> bool
     ensures { result ≡ bad_length length }
 {
-    !((length == 0) | (length == SHORT_LIST) | (length == FULL_LIST))
+    !matches!(length, 0 | SHORT_LIST | FULL_LIST)
 }
 
 fn bad_page(page: u8) -> bool
     ensures { result ≡ bad_page page }
 {
-    !((page == HEADER_ALONE) | (page == DEVICE_PAGE))
+    !matches!(page, HEADER_ALONE | DEVICE_PAGE)
 }
 
 #[tactic(auto, unfolding(crate::specs::Checks::asked_by))]
-fn asked_by(command: Command, h: Header, q: Request) -> Asked
-    ensures { result ≡ asked_by command h q }
+fn asked_by(h: Header, q: Request) -> Asked
+    ensures { result ≡ asked_by q.command h q }
 {
     let room = q.length as usize;
-    match command {
+    match q.command {
         Command::Unknown => no_command(),
-        Command::TestUnitReady => on_tape(false, 0),
-        Command::Rewind => on_tape(false, 0),
-        Command::RequestSense => always(least(room, SENSE_LENGTH)),
+        Command::TestUnitReady | Command::Rewind => on_tape(false, 0),
+        Command::RequestSense => always(room.min(SENSE_LENGTH)),
         Command::Read => on_tape(!is_set(q.flags, 1), transfer_bytes(q.count, h.size)),
         Command::Write => storing(!is_set(q.flags, 1), transfer_bytes(q.count, h.size)),
         Command::WriteFilemarks => storing(false, 0),
         Command::Space => on_tape(bad_code(q.flags % 8), 0),
-        Command::Inquiry => always(least(room, INQUIRY_LENGTH)),
+        Command::Inquiry => always(room.min(INQUIRY_LENGTH)),
         Command::ModeSelect => settings(false, bad_length(room), room),
-        Command::ModeSense => settings(
-            bad_page(q.page % 64),
-            false,
-            least(room, mode_length(q.page)),
-        ),
+        Command::ModeSense => settings(bad_page(q.page % 64), false, room.min(mode_length(q.page))),
         Command::LoadUnload => {
             let load = is_set(q.length, 1);
             loading(load & is_set(q.length, 4), !load)
@@ -70,6 +64,5 @@ fn asked_by(command: Command, h: Header, q: Request) -> Asked
 pub fn verdict(h: Header, state: State, q: Request, room: usize) -> Verdict
     ensures { result ≡ verdict_by (asked_by q.command h q) (is_protected h) state room }
 {
-    let command = q.command;
-    verdict_by(asked_by(command, h, q), h.protect == 1, state, room)
+    verdict_by(asked_by(h, q), h.protect == 1, state, room)
 }

@@ -19,11 +19,10 @@ pub const UNIT_BLOCKS: u16 = 64;
 pub fn mode_length(page: u8) -> usize
     ensures { result ≡ (if page % 64 ≡ᵇ device_page then full_list else short_list) }
 {
-    let whole = page % 64 == DEVICE_PAGE;
-    if whole {
-        return FULL_LIST;
+    match page % 64 {
+        DEVICE_PAGE => FULL_LIST,
+        _ => SHORT_LIST,
     }
-    SHORT_LIST
 }
 
 pub fn position_bytes(h: Header, state: State) -> [u8; 20]

@@ -37,9 +37,5 @@ pub fn magnitude_of(count: u32) -> u32
     requires { count < 2 ^ 24 }
     ensures { result ≡ magnitude count }
 {
-    let back = is_back(count);
-    if back {
-        return WHOLE - count;
-    }
-    count
+    if is_back(count) { WHOLE - count } else { count }
 }

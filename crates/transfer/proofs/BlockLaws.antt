@@ -1,5 +1,6 @@
 -- What READ moves are blocks of the image, for any end up to the capacity.
 -- Assumes nothing.
+use Rattle.std.specs.Prelude.{Some}
 use Prim.Native.Nat.{ℕ, ◌+◌, ◌*◌, ◌≤◌, ◌<◌}
 use native.Mathlib.Nat.{zero-add, mul-le-mul_right}
 use native.Mathlib.Omega.{arith}
@@ -8,14 +9,13 @@ use mathlib.Core.Path.{◌≡◌, sym}
 use lib.ListN.{length}
 use Rattle.numbers.specs.Over.{part}
 use Rattle.image.specs.declared.header.Header.{Header}
-use Rattle.image.specs.declared.header.Judged.TheVariants.{Good}
 use Rattle.image.specs.Header.{header_of}
 use Rattle.image.specs.Sameness.{IsBlock}
 use Rattle.image.proofs.HeaderLaws.{is_block, sound}
 use Rattle.transfer.specs.Reading.{read_from}
 use Rattle.transfer.proofs.ReadLaws.{read_run, read-block, data_moved}
 
-pub moved_blocks : (s : List ℕ) (h : Header) → header_of s ≡ Good h → (end : ℕ) → end ≤ h.capacity → (n p : ℕ) (buf : List ℕ)
+pub moved_blocks : (s : List ℕ) (h : Header) → header_of s ≡ Some h → (end : ℕ) → end ≤ h.capacity → (n p : ℕ) (buf : List ℕ)
     → n * h.size ≤ length buf → (k : ℕ) → k + (read_from s h.size h.kinds h.blocks end n 0 p buf).moved.left < n
     → IsBlock end s (p + k) (part (read_from s h.size h.kinds h.blocks end n 0 p buf).buf (k * h.size) h.size)
 moved_blocks s h good end inside n p buf room k m =

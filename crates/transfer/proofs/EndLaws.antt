@@ -3,7 +3,7 @@
 use Rattle.std.specs.Prelude.{if◌then◌else◌}
 use mathlib.Core.Bool.{Bool, true, false}
 use mathlib.Core.Path.{◌≡◌, refl}
-use Prim.Native.Nat.{ℕ, ◌≤◌, ◌<◌}
+use Prim.Native.Nat.{ℕ, suc, ◌+◌, ◌-◌, ◌≤◌, ◌<◌}
 use native.Mathlib.Nat.{le_refl}
 use native.Mathlib.Omega.{arith}
 use Rattle.image.specs.declared.elements.Kind.{Kind}
@@ -13,6 +13,14 @@ use Rattle.transfer.specs.declared.Stop.{Stop}
 use Rattle.transfer.specs.declared.Stop.TheVariants.{Full, AtFilemark, AtBadBlock, AtEnd, AtBeginning}
 use Rattle.transfer.specs.Moving.{halts}
 use Rattle.transfer.specs.Reading.{stop_at}
+
+-- of n asked for, `done` are done: none is left, or one and what is left after it
+module _ (n done : ℕ) where
+  pub none_left : done ≡ n → n - done ≡ 0
+  none_left e = omega arith
+
+  pub some_left : done < n → n - done ≡ suc (n - (done + 1))
+  some_left l = omega arith
 
 -- a run that was asked for n
 pub record Ended (n : ℕ) (m : Moved) : Type 0 where

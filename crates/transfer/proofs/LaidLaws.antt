@@ -1,5 +1,6 @@
 -- What a run of laid elements leaves, for any end up to the capacity: one header, elements and bytes outside stay, and laid blocks read back.
 -- Assumes nothing.
+use Rattle.std.specs.Prelude.{Some}
 use Prim.Native.Nat.{ℕ, zero, suc, ◌+◌, ◌*◌, ◌≤◌, ◌<◌}
 use native.Mathlib.Nat.{le_refl, mul-le-mul_right}
 use native.Mathlib.Omega.{arith}
@@ -11,7 +12,6 @@ use Rattle.numbers.specs.Over.{part}
 use Rattle.numbers.proofs.OverLaws.{part_length}
 use Rattle.image.specs.declared.elements.Kind.TheVariants.{Data, Filemark}
 use Rattle.image.specs.declared.header.Header.{Header}
-use Rattle.image.specs.declared.header.Judged.TheVariants.{Good}
 use Rattle.image.specs.Elements.{kind_at, block_at}
 use Rattle.image.specs.Header.{header_of}
 use Rattle.image.specs.Sameness.{SameElement, Outside}
@@ -23,7 +23,7 @@ use Rattle.transfer.proofs.WriteLaws.{LayRun}
 
 -- from place p on the run laid elements up to the place where it halted
 pub record Laid (h : Header) (Apart : ℕ → ℕ → Type 0) (p : ℕ) (s : List ℕ) (X : Writing) : Type 0 where
-  pub header : header_of X.image ≡ Good h
+  pub header : header_of X.image ≡ Some h
   pub onward : p ≤ X.moved.place
   pub reached : X.moved.place ≤ h.capacity
   pub size : length X.image ≡ length s
@@ -33,8 +33,8 @@ pub record Laid (h : Header) (Apart : ℕ → ℕ → Type 0) (p : ℕ) (s : Lis
 
 -- each element is laid so, with its bytes below `room`
 module _ (h : Header) (Apart : ℕ → ℕ → Type 0) (lay : ℕ → ℕ → List ℕ → List ℕ) (size room : ℕ)
-    (one : (off p : ℕ) (s : List ℕ) → header_of s ≡ Good h → p < h.capacity → off + size ≤ room → OneLaid h (Apart p) p s (lay off p s)) where
-  laid_none : (p : ℕ) (s : List ℕ) (left : ℕ) (stop : Stop) → header_of s ≡ Good h → p ≤ h.capacity → Laid h Apart p s (writes s (halts p left stop))
+    (one : (off p : ℕ) (s : List ℕ) → header_of s ≡ Some h → p < h.capacity → off + size ≤ room → OneLaid h (Apart p) p s (lay off p s)) where
+  laid_none : (p : ℕ) (s : List ℕ) (left : ℕ) (stop : Stop) → header_of s ≡ Some h → p ≤ h.capacity → Laid h Apart p s (writes s (halts p left stop))
   laid_none p s left stop good l =
       record {
         header = good;
@@ -62,7 +62,7 @@ module _ (h : Header) (Apart : ℕ → ℕ → Type 0) (lay : ℕ → ℕ → Li
         none = λ e. absurd (omega arith);
       }
 
-  pub laid : {end n off p : ℕ} {s : List ℕ} {X : Writing} → LayRun lay size end n off p s X → end ≤ h.capacity → header_of s ≡ Good h → p ≤ h.capacity
+  pub laid : {end n off p : ℕ} {s : List ℕ} {X : Writing} → LayRun lay size end n off p s X → end ≤ h.capacity → header_of s ≡ Some h → p ≤ h.capacity
       → off + n * size ≤ room → Laid h Apart p s X
   laid (LayRun.full off p s) i g l b = laid_none p s _ _ g l
   laid (LayRun.at-end n off p s e) i g l b = laid_none p s _ _ g l
@@ -87,18 +87,18 @@ module _ (h : Header) (p place k m : ℕ) (e : place ≡ p + k) where
       ⊎_elim (λ c. inl (omega arith)) (λ c. inr (omega arith)) o
 
 -- the block of src at offset off
-pub block_of_lem : (h : Header) (src : List ℕ) (off p : ℕ) (s : List ℕ) → header_of s ≡ Good h → p < h.capacity → off + h.size ≤ length src
+pub block_of_lem : (h : Header) (src : List ℕ) (off p : ℕ) (s : List ℕ) → header_of s ≡ Some h → p < h.capacity → off + h.size ≤ length src
     → OneLaid h (Apart h p) p s (block_of h.size h.kinds h.blocks src off p s)
 block_of_lem h src off p s g e l = block-laid s h g p e (part src off h.size) (part_length src off h.size l)
 
 module _ (h : Header) (end : ℕ) (inside : end ≤ h.capacity) where
   pub marks_laid : {n p : ℕ} {s : List ℕ} {X : Writing} → LayRun (mark_of h.kinds) 0 end n 0 p s X
-      → header_of s ≡ Good h → p ≤ h.capacity → Laid h (OffKind h) p s X
+      → header_of s ≡ Some h → p ≤ h.capacity → Laid h (OffKind h) p s X
   marks_laid r g l = laid h (OffKind h) (mark_of h.kinds) 0 0 (λ off p s g c r. mark_laid s h g p c) r inside g l (omega arith)
 
   -- filemark number j of a WRITE FILEMARK is element p + j
   pub marks_read_back : {n p : ℕ} {s : List ℕ} {X : Writing} → LayRun (mark_of h.kinds) 0 end n 0 p s X
-      → header_of s ≡ Good h → (j : ℕ) → p + j < X.moved.place → kind_at X.image h.kinds (p + j) ≡ Filemark
+      → header_of s ≡ Some h → (j : ℕ) → p + j < X.moved.place → kind_at X.image h.kinds (p + j) ≡ Filemark
   marks_read_back (LayRun.full off p s) g j f = absurd (omega arith)
   marks_read_back (LayRun.at-end n off p s e) g j f = absurd (omega arith)
   marks_read_back (LayRun.lays n off p s X e r) g zero f =
@@ -115,12 +115,12 @@ module _ (h : Header) (end : ℕ) (inside : end ≤ h.capacity) where
     BlockRun n off p s X = LayRun (block_of h.size h.kinds h.blocks src) h.size end n off p s X
 
     pub blocks-laid : {n off p : ℕ} {s : List ℕ} {X : Writing} → BlockRun n off p s X
-        → header_of s ≡ Good h → p ≤ h.capacity → off + n * h.size ≤ length src → Laid h (Apart h) p s X
+        → header_of s ≡ Some h → p ≤ h.capacity → off + n * h.size ≤ length src → Laid h (Apart h) p s X
     blocks-laid r g l b = laid h (Apart h) (block_of h.size h.kinds h.blocks src) h.size (length src) (block_of_lem h src) r inside g l b
 
     -- block number j of a WRITE is element p + j
     pub blocks-read-back : {n off p : ℕ} {s : List ℕ} {X : Writing} → BlockRun n off p s X
-        → header_of s ≡ Good h → off + n * h.size ≤ length src → (j : ℕ) → p + j < X.moved.place
+        → header_of s ≡ Some h → off + n * h.size ≤ length src → (j : ℕ) → p + j < X.moved.place
         → (kind_at X.image h.kinds (p + j) ≡ Data) × (block_at X.image h.size h.blocks (p + j) ≡ part src (off + j * h.size) h.size)
     blocks-read-back (LayRun.full off p s) g b j f = absurd (omega arith)
     blocks-read-back (LayRun.at-end n off p s e) g b j f = absurd (omega arith)

@@ -1,15 +1,27 @@
 -- Marked elements, one at a time: those found and those of the rest are those of the whole.
 -- Assumes nothing.
-use mathlib.Core.Path.{◌≡◌, refl, ap, ◌∙◌}
+use Rattle.std.specs.Prelude.{count_by, length}
+use Rattle.numbers.specs.Over.{part}
+use Rattle.numbers.proofs.OverLaws.{part_first}
+use Rattle.std.proofs.lemmas.List.Sums.{sum_by-cons}
+use mathlib.Core.Path.{◌≡◌, refl}
 use mathlib.Core.List.{List}
-use Prim.Native.Nat.{ℕ, zero, suc, ◌+◌, ◌-◌, ◌<◌, ◌≤◌}
-use native.Mathlib.Nat.{not-suc-le-zero}
-use native.Mathlib.Numerals.{sub-one}
+use Prim.Native.Nat.{ℕ, zero, suc, ◌+◌, ◌≤◌}
 use native.Mathlib.Omega.{arith}
 use Rattle.image.specs.declared.elements.Kind.{Kind}
 use Rattle.image.specs.declared.elements.Kind.TheVariants.{Data, Filemark, Unreadable, Marked}
-use Rattle.image.specs.Elements.{kind_at}
+use Rattle.image.specs.Elements.{kind_of, kind_at, is_marked}
 use Rattle.transfer.specs.Marked.{marked_in, marked_from}
+
+-- the marked kinds among the bytes of the kind table
+pub marked_among : (s : List ℕ) (kinds n p : ℕ) → kinds + (p + n) ≤ length s
+    → count_by (λ byte. is_marked (kind_of byte)) (part s (kinds + p) n) ≡ marked_from s kinds n p
+unfolding marked_from kind_at
+marked_among s kinds zero p h = refl
+marked_among s kinds (suc n) p h =
+    let z : kinds + p + 1 ≡ kinds + (p + 1) = omega arith in
+    rw (part_first s (kinds + p) n (omega arith), z)
+    (rw (← marked_among s kinds n (p + 1) (omega arith)) (sum_by-cons (λ byte. marked_in (kind_of byte)) _ (part s (kinds + (p + 1)) n)))
 
 module _ (s : List ℕ) (kinds : ℕ) where
   -- an element counts 1 at most
@@ -18,19 +30,6 @@ module _ (s : List ℕ) (kinds : ℕ) where
   one_at_most p one Filemark e q = omega arith
   one_at_most p one Unreadable e q = omega arith
   one_at_most p one Marked e q = omega arith
-
-  pub marked_done : (left p found X : ℕ) → found + marked_from s kinds left p ≡ X → left ≤ 0 → found ≡ X
-  unfolding marked_from
-  marked_done zero p found X i h = omega arith
-  marked_done (suc left) p found X i h = absurd (not-suc-le-zero h)
-
-  pub marked_next : (left p found one X : ℕ) (kind : Kind) → found + marked_from s kinds left p ≡ X → 0 < left → kind ≡ kind_at s kinds p
-      → one ≡ marked_in kind → found + one + marked_from s kinds (left - 1) (p + 1) ≡ X
-  unfolding marked_from
-  marked_next zero p found one X kind i h e q = absurd (not-suc-le-zero h)
-  marked_next (suc left) p found one X kind i h e q =
-      let z : one ≡ marked_in (kind_at s kinds p) = q ∙ ap marked_in e in
-      rw sub-one (omega arith)
 
   -- no more than all
   pub marked_few : (n p : ℕ) → marked_from s kinds n p ≤ n

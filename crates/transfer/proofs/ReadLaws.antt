@@ -3,57 +3,63 @@
 use Rattle.std.specs.Prelude.{if◌then◌else◌}
 use mathlib.Core.Path.{◌≡◌, refl, sym, ap, ◌∙◌}
 use mathlib.Core.Bool.{Bool, true, false}
-use mathlib.Core.List.{List}
+use mathlib.Core.List.{List, append-nil}
 use Prim.Native.Nat.{ℕ, zero, suc, ◌+◌, ◌*◌, ◌-◌, ◌<◌, ◌≤◌}
-use native.Mathlib.Nat.{not-suc-le-zero, mul-le-mul_right}
-use native.Mathlib.Numerals.{sub-one}
+use native.Mathlib.Nat.{le_refl, mul-le-mul_right}
 use native.Mathlib.Omega.{arith}
 use borrow.Author.Tests.{le-leb, lt-leb, leb-true, leb-false}
 use lib.Dec.{leb}
 use borrow.Rule.Slice.PartMut.{mid_of, put_mid}
-use lib.ListN.{length, get_or, length-take}
+use lib.ListN.{length, get_or, length-take, length-drop, drop_of_length-le, drop}
 use Rattle.numbers.specs.Over.{over, part}
-use Rattle.numbers.proofs.OverLaws.{part_length, part_same, over_length, over_below, over_above, over_part, copied_over}
-use Rattle.image.specs.declared.elements.Kind.{Kind}
+use Rattle.numbers.proofs.OverLaws.{part_length, part_same, over_length, over_below, over_above, over_part, lent_rest}
 use Rattle.image.specs.Elements.{holds_data, kind_at, block_at}
 use Rattle.transfer.specs.declared.Moved.{Moved}
-use Rattle.transfer.specs.declared.Stop.{Stop}
 use Rattle.transfer.specs.declared.Stop.TheVariants.{Full, AtEnd}
 use Rattle.transfer.specs.Moving.{halts}
 use Rattle.transfer.specs.Reading.{Reading, reads, stop_at, read_from}
-use Rattle.transfer.proofs.EndLaws.{Ended, ended_full, ended_short, ended_on, stop_short, end_short}
+use Rattle.transfer.proofs.EndLaws.{none_left, some_left, Ended, ended_full, ended_short, ended_on, stop_short, end_short}
 
--- the bytes of one block fewer
-pub one_fewer : (n size : ℕ) → 0 < n → n * size ≡ (n - 1) * size + size
-one_fewer zero size h = absurd (not-suc-le-zero h)
-one_fewer (suc n) size h = rw sub-one (omega arith)
+-- ---- the loop's steps: of n asked for, `done` are done
 
-module _ (s : List ℕ) (size kinds blocks end off p : ℕ) (buf : List ℕ) (X : Reading) where
-  pub read_done : (left : ℕ) (m : Moved) → read_from s size kinds blocks end left off p buf ≡ X → left ≤ 0 → m ≡ halts p 0 Full → reads buf m ≡ X
+module _ (s : List ℕ) (size kinds blocks end n done off p : ℕ) (buf : List ℕ) where
+  pub read_full : done ≡ n → read_from s size kinds blocks end (n - done) off (p + done) buf ≡ reads buf (halts (p + done) 0 Full)
   unfolding read_from
-  read_done zero m i h q = rw q i
-  read_done (suc left) m i h q = absurd (not-suc-le-zero h)
+  read_full e = rw (none_left n done e) refl
 
-  pub read_end : (left : ℕ) (m : Moved) → read_from s size kinds blocks end left off p buf ≡ X → 0 < left → end ≤ p → m ≡ halts p left AtEnd → reads buf m ≡ X
+  pub read_at_end : done < n → end ≤ p + done
+      → read_from s size kinds blocks end (n - done) off (p + done) buf ≡ reads buf (halts (p + done) (n - done) AtEnd)
   unfolding read_from
-  read_end zero m i h e q = absurd (not-suc-le-zero h)
-  read_end (suc left) m i h e q = rw q (rw (le-leb end p e) at i)
+  read_at_end l e = rw (some_left n done l, le-leb end (p + done) e) refl
 
-  pub read_stop : (left : ℕ) (m : Moved) (kind : Kind) (b : Bool) (stop : Stop) → read_from s size kinds blocks end left off p buf ≡ X → 0 < left → p < end
-      → kind ≡ kind_at s kinds p → b ≡ holds_data kind → b ≡ false → stop ≡ stop_at kind → m ≡ halts (p + 1) left stop → reads buf m ≡ X
+  pub read_stops : done < n → p + done < end → holds_data (kind_at s kinds (p + done)) ≡ false
+      → read_from s size kinds blocks end (n - done) off (p + done) buf
+      ≡ reads buf (halts (p + done + 1) (n - done) (stop_at (kind_at s kinds (p + done))))
   unfolding read_from
-  read_stop zero m kind b stop i h l e k f w q = absurd (not-suc-le-zero h)
-  read_stop (suc left) m kind b stop i h l e k f w q = rw (q, w) (rw (lt-leb end p l, ← e, ← k, f) at i)
+  read_stops l e t = rw (some_left n done l, lt-leb end (p + done) e, t) refl
 
-  -- a block was copied from the image's bytes at a to the rest of the buffer, which came back as ys
-  pub read_next : (left a : ℕ) (kind : Kind) (b : Bool) (ys : List ℕ) → read_from s size kinds blocks end left off p buf ≡ X → 0 < left → p < end
-      → kind ≡ kind_at s kinds p → b ≡ holds_data kind → b ≡ true → a ≡ blocks + p * size
-      → ys ≡ over (mid_of off (length buf - off) buf) 0 (mid_of a (a + size - a) s)
-      → read_from s size kinds blocks end (left - 1) (off + size) (p + 1) (put_mid off (length buf - off) buf ys) ≡ X
-  unfolding read_from block_at
-  read_next zero a kind b ys i h l e k t q r = absurd (not-suc-le-zero h)
-  read_next (suc left) a kind b ys i h l e k t q r =
-      rw (copied_over off a size buf s ys r, q, sub-one) (rw (lt-leb end p l, ← e, ← k, t) at i)
+  pub read_copies : done < n → p + done < end → holds_data (kind_at s kinds (p + done)) ≡ true
+      → read_from s size kinds blocks end (n - done) off (p + done) buf
+      ≡ read_from s size kinds blocks end (n - (done + 1)) (off + size) (p + (done + 1)) (over buf off (block_at s size blocks (p + done)))
+  unfolding read_from
+  read_copies l e t =
+      let y : p + done + 1 ≡ p + (done + 1) = omega arith in
+      rw (some_left n done l, lt-leb end (p + done) e, t, y) refl
+
+-- what is lent to the copier of one block, and what comes back
+
+pub rest_length : (off : ℕ) (buf : List ℕ) → length (mid_of off (length buf - off) buf) ≡ length buf - off
+rest_length off buf = rw (lent_rest, length-drop) refl
+
+pub copied_back : (off : ℕ) (buf bytes : List ℕ) → put_mid off (length buf - off) buf (over (mid_of off (length buf - off) buf) 0 bytes) ≡ over buf off bytes
+copied_back off buf bytes =
+    rw (lent_rest, drop_of_length-le (drop off buf) {i = length buf - off} (rw length-drop (le_refl _)), append-nil) refl
+
+pub block_length : (s : List ℕ) (size blocks i : ℕ) → length (block_at s size blocks i) ≤ size
+unfolding block_at
+block_length s size blocks i = rw length-take (omega arith)
+
+pub ruleset read_ways = (read_full, read_at_end, read_stops, read_copies, rest_length, copied_back, block_length)
 
 -- ---- the whole run
 
@@ -93,10 +99,6 @@ module _ (s : List ℕ) (size kinds blocks end : ℕ) where
   run_place (stops n off p buf h e) l = omega arith
   run_place (copies n off p buf X h e r) l = run_place r (omega arith)
 
-  at_most : (p : ℕ) → length (block_at s size blocks p) ≤ size
-  unfolding block_at
-  at_most p = rw length-take (omega arith)
-
   -- the buffer keeps its length, and its bytes before off
   record Kept (off : ℕ) (buf new : List ℕ) : Type 0 where
     size-kept : length new ≡ length buf
@@ -107,7 +109,7 @@ module _ (s : List ℕ) (size kinds blocks end : ℕ) where
   run_kept (at-end n off p buf h) l = record { size-kept = refl; before-kept = λ i h. refl }
   run_kept (stops n off p buf h e) l = record { size-kept = refl; before-kept = λ i h. refl }
   run_kept (copies n off p buf X h e r) l =
-      let m = at_most p in
+      let m = block_length s size blocks p in
       let o = over_length buf (block_at s size blocks p) off (omega arith) in
       let k = run_kept r (omega arith) in
       record {
@@ -136,7 +138,7 @@ module _ (s : List ℕ) (size kinds blocks end : ℕ) where
       ∙ over_part buf (part s (blocks + p * size) size) off (omega arith))
   run_block (copies n off p buf X g e r) l b (suc j) h =
       let m = mul-le-mul_right size g in
-      let w = at_most p in
+      let w = block_length s size blocks p in
       let o = over_length buf (block_at s size blocks p) off (omega arith) in
       let x : off + suc j * size ≡ off + size + j * size = omega arith in
       let y : p + suc j ≡ p + 1 + j = omega arith in
@@ -157,7 +159,7 @@ module _ (s : List ℕ) (size kinds blocks end : ℕ) where
       further : (k : ℕ) → k + X.moved.left ≡ suc n → (i : ℕ) → off + k * size ≤ i → get_or X.buf i 0 ≡ get_or buf i 0
       further zero e i h = absurd (omega (arith, r.less))
       further (suc k) e i h =
-          let m = at_most p in
+          let m = block_length s size blocks p in
           r.beyond k (omega arith) i (omega arith) ∙ over_above buf (block_at s size blocks p) off i (omega arith) (omega arith)
 
   pub copied : {n off p : ℕ} {buf : List ℕ} {X : Reading} → ReadRun n off p buf X → off + n * size ≤ length buf → Copied n off buf X
@@ -165,7 +167,7 @@ module _ (s : List ℕ) (size kinds blocks end : ℕ) where
   copied (at-end n off p buf h) l = copied_none (suc n) off buf _ refl
   copied (stops n off p buf h e) l = copied_none (suc n) off buf _ refl
   copied (copies n off p buf X h e r) l =
-      let m = at_most p in
+      let m = block_length s size blocks p in
       let o = over_length buf (block_at s size blocks p) off (omega arith) in
       copied_on n off p buf X l (copied r (omega arith))
 

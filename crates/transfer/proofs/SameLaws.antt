@@ -1,6 +1,6 @@
 -- Images that are alike below an end are read, passed over and written alike, and stay alike.
 -- Assumes nothing.
-use Rattle.std.specs.Prelude.{if◌then◌else◌}
+use Rattle.std.specs.Prelude.{if◌then◌else◌, Some}
 use Prim.Native.Nat.{ℕ, zero, suc, ◌+◌, ◌*◌, ◌≤◌, ◌<◌}
 use native.Mathlib.Omega.{arith}
 use mathlib.Core.Bool.{Bool, true, false, false≢true}
@@ -13,7 +13,6 @@ use lib.ListN.{length}
 use Rattle.numbers.specs.Over.{over, part}
 use Rattle.numbers.proofs.OverLaws.{part_length}
 use Rattle.image.specs.declared.header.Header.{Header}
-use Rattle.image.specs.declared.header.Judged.TheVariants.{Good as GoodHeader}
 use Rattle.image.specs.Elements.{holds_data, kind_at, block_at}
 use Rattle.image.specs.Header.{header_of}
 use Rattle.image.specs.Sameness.{ReadsSame, Alike}
@@ -80,11 +79,11 @@ module _ (h : Header) (end : ℕ) (s t : List ℕ) (alike : (i : ℕ) → i < en
 
 -- good images with one header, whose elements read the same below the end and below the place p
 pub record Same (h : Header) (end p : ℕ) (s t : List ℕ) : Type 0 where
-  pub left : header_of s ≡ GoodHeader h
-  pub right : header_of t ≡ GoodHeader h
+  pub left : header_of s ≡ Some h
+  pub right : header_of t ≡ Some h
   pub elements : (i : ℕ) → (i < end) ⊎ (i < p) → ReadsSame h s t i
 
-pub of_alike : (h : Header) (end p : ℕ) (s t : List ℕ) → header_of s ≡ GoodHeader h → p ≤ end → Alike end s t → Same h end p s t
+pub of_alike : (h : Header) (end p : ℕ) (s t : List ℕ) → header_of s ≡ Some h → p ≤ end → Alike end s t → Same h end p s t
 of_alike h end p s t e l a =
     record { left = e; right = a.header ∙ e; elements = λ i o. rw (fields_are s h e) at a.elements i (⊎_elim (λ m. m) (λ m. omega arith) o) }
 
@@ -121,8 +120,8 @@ module _ (h : Header) (end : ℕ) (inside : end ≤ h.capacity) where
 
   -- a run whose elements are laid so, with their bytes below `room`, and read the same where they are laid
   module _ {Apart : ℕ → ℕ → Type 0} (lay : ℕ → ℕ → List ℕ → List ℕ) (size room : ℕ)
-      (one : (off p : ℕ) (s : List ℕ) → header_of s ≡ GoodHeader h → p < h.capacity → off + size ≤ room → OneLaid h (Apart p) p s (lay off p s))
-      (here : (off p : ℕ) (s t : List ℕ) → header_of s ≡ GoodHeader h → header_of t ≡ GoodHeader h → p < h.capacity → off + size ≤ room
+      (one : (off p : ℕ) (s : List ℕ) → header_of s ≡ Some h → p < h.capacity → off + size ≤ room → OneLaid h (Apart p) p s (lay off p s))
+      (here : (off p : ℕ) (s t : List ℕ) → header_of s ≡ Some h → header_of t ≡ Some h → p < h.capacity → off + size ≤ room
       → ReadsSame h (lay off p s) (lay off p t) p) where
     pub laid_same : (n off p : ℕ) (s t : List ℕ) → Same h end p s t → p ≤ h.capacity → off + n * size ≤ room
         → LaidSame h end (lay_from lay size h.capacity n off p s) (lay_from lay size h.capacity n off p t)
@@ -134,13 +133,13 @@ module _ (h : Header) (end : ℕ) (inside : end ≤ h.capacity) where
         (same_on a c (one off p s a.left c (omega arith)) (one off p t a.right c (omega arith)) (here off p s t a.left a.right c (omega arith)))
         (omega arith) (omega arith)) (leb h.capacity p) refl
 
-  pub mark_same : (off p : ℕ) (s t : List ℕ) → header_of s ≡ GoodHeader h → header_of t ≡ GoodHeader h → p < h.capacity → off + 0 ≤ 0
+  pub mark_same : (off p : ℕ) (s t : List ℕ) → header_of s ≡ Some h → header_of t ≡ Some h → p < h.capacity → off + 0 ≤ 0
       → ReadsSame h (mark_of h.kinds off p s) (mark_of h.kinds off p t) p
   mark_same off p s t x y c r =
       let k = mark_here s h x p c in
       record { kind = mark_here t h y p c ∙ sym k; bytes = λ d. absurd (false≢true (sym (ap holds_data k) ∙ d)) }
 
-  pub block_same : (src : List ℕ) (off p : ℕ) (s t : List ℕ) → header_of s ≡ GoodHeader h → header_of t ≡ GoodHeader h → p < h.capacity
+  pub block_same : (src : List ℕ) (off p : ℕ) (s t : List ℕ) → header_of s ≡ Some h → header_of t ≡ Some h → p < h.capacity
       → off + h.size ≤ length src
       → ReadsSame h (block_of h.size h.kinds h.blocks src off p s) (block_of h.size h.kinds h.blocks src off p t) p
   block_same src off p s t x y c r =

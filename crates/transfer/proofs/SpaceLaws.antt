@@ -5,8 +5,7 @@ use mathlib.Core.Path.{◌≡◌, refl}
 use mathlib.Core.Bool.{Bool, true, false}
 use mathlib.Core.List.{List}
 use Prim.Native.Nat.{ℕ, zero, suc, ◌+◌, ◌-◌, ◌<◌, ◌≤◌}
-use native.Mathlib.Nat.{not-suc-le-zero, le_refl, le_step}
-use native.Mathlib.Numerals.{sub-one}
+use native.Mathlib.Nat.{le_refl, le_step}
 use native.Mathlib.Omega.{arith}
 use borrow.Author.Tests.{le-leb, lt-leb, ne_eqb, leb-true, leb-false}
 use lib.Dec.{leb, eqb}
@@ -17,100 +16,92 @@ use Rattle.transfer.specs.declared.Moved.{Moved}
 use Rattle.transfer.specs.declared.Stop.TheVariants.{Full, AtFilemark, AtEnd, AtBeginning}
 use Rattle.transfer.specs.Moving.{halts}
 use Rattle.transfer.specs.Spacing.{marks_left, blocks_on, blocks_back, marks_on, marks_back}
-use Rattle.transfer.proofs.EndLaws.{Ended, ended_full, ended_short, ended_on, filemark_short, end_short, beginning_short}
+use Rattle.transfer.proofs.EndLaws.{none_left, some_left, Ended, ended_full, ended_short, ended_on, filemark_short, end_short, beginning_short}
 
-module _ (s : List ℕ) (kinds p : ℕ) (X : Moved) where
-  -- ---- blocks on
+-- ---- the loops' steps: of n asked for, `done` are done
 
-  pub on_done : (end left : ℕ) (m : Moved) → blocks_on s kinds end left p ≡ X → left ≤ 0 → m ≡ halts p 0 Full → m ≡ X
+module _ (s : List ℕ) (kinds end n done p : ℕ) where
+  pub on_full : done ≡ n → blocks_on s kinds end (n - done) (p + done) ≡ halts (p + done) 0 Full
   unfolding blocks_on
-  on_done end zero m i h z = rw z i
-  on_done end (suc left) m i h z = absurd (not-suc-le-zero h)
+  on_full e = rw (none_left n done e) refl
 
-  pub on_end : (end left : ℕ) (m : Moved) → blocks_on s kinds end left p ≡ X → 0 < left → end ≤ p → m ≡ halts p left AtEnd → m ≡ X
+  pub on_at_end : done < n → end ≤ p + done → blocks_on s kinds end (n - done) (p + done) ≡ halts (p + done) (n - done) AtEnd
   unfolding blocks_on
-  on_end end zero m i h e z = absurd (not-suc-le-zero h)
-  on_end end (suc left) m i h e z = rw z (rw (le-leb end p e) at i)
+  on_at_end l e = rw (some_left n done l, le-leb end (p + done) e) refl
 
-  pub on_mark : (end left : ℕ) (m : Moved) (kind : Kind) (b : Bool) → blocks_on s kinds end left p ≡ X → 0 < left → p < end
-      → kind ≡ kind_at s kinds p → b ≡ is_filemark kind → b ≡ true → m ≡ halts (p + 1) left AtFilemark → m ≡ X
+  pub on_at_mark : done < n → p + done < end → is_filemark (kind_at s kinds (p + done)) ≡ true
+      → blocks_on s kinds end (n - done) (p + done) ≡ halts (p + done + 1) (n - done) AtFilemark
   unfolding blocks_on
-  on_mark end zero m kind b i h l e q t z = absurd (not-suc-le-zero h)
-  on_mark end (suc left) m kind b i h l e q t z = rw z (rw (lt-leb end p l, ← e, ← q, t) at i)
+  on_at_mark l e t = rw (some_left n done l, lt-leb end (p + done) e, t) refl
 
-  pub on_next : (end left : ℕ) (kind : Kind) (b : Bool) → blocks_on s kinds end left p ≡ X → 0 < left → p < end
-      → kind ≡ kind_at s kinds p → b ≡ is_filemark kind → b ≡ false → blocks_on s kinds end (left - 1) (p + 1) ≡ X
+  pub on_passes : done < n → p + done < end → is_filemark (kind_at s kinds (p + done)) ≡ false
+      → blocks_on s kinds end (n - done) (p + done) ≡ blocks_on s kinds end (n - (done + 1)) (p + (done + 1))
   unfolding blocks_on
-  on_next end zero kind b i h l e q t = absurd (not-suc-le-zero h)
-  on_next end (suc left) kind b i h l e q t = rw sub-one (rw (lt-leb end p l, ← e, ← q, t) at i)
+  on_passes l e t =
+      let y : p + done + 1 ≡ p + (done + 1) = omega arith in
+      rw (some_left n done l, lt-leb end (p + done) e, t, y) refl
 
-  -- ---- filemarks on
+pub ruleset on_ways = (on_full, on_at_end, on_at_mark, on_passes)
 
-  pub marks_on_done : (ahead left : ℕ) (m : Moved) → marks_on s kinds ahead left p ≡ X → left ≤ 0 → m ≡ halts p 0 Full → m ≡ X
+module _ (s : List ℕ) (kinds n done p : ℕ) where
+  pub back_full : done ≡ n → blocks_back s kinds (p - done) (n - done) ≡ halts (p - done) 0 Full
+  unfolding blocks_back
+  back_full e = rw (none_left n done e) refl
+
+  pub back_at_start : done < n → p - done ≡ 0 → blocks_back s kinds (p - done) (n - done) ≡ halts 0 (n - done) AtBeginning
+  unfolding blocks_back
+  back_at_start l e = rw (some_left n done l, e) refl
+
+  module _ (l : done < n) (m : done < p) where
+    back : p - done - 1 ≡ p - (done + 1)
+    back = omega arith
+
+    pub back_at_mark : is_filemark (kind_at s kinds (p - done - 1)) ≡ true
+        → blocks_back s kinds (p - done) (n - done) ≡ halts (p - done - 1) (n - done) AtFilemark
+    unfolding blocks_back
+    back_at_mark t = rw (back, some_left n done l, some_left p done m, (rw back at t)) refl
+
+    pub back_passes : is_filemark (kind_at s kinds (p - done - 1)) ≡ false
+        → blocks_back s kinds (p - done) (n - done) ≡ blocks_back s kinds (p - (done + 1)) (n - (done + 1))
+    unfolding blocks_back
+    back_passes t = rw (some_left n done l, some_left p done m, (rw back at t)) refl
+
+pub ruleset back_ways = (back_full, back_at_start, back_at_mark, back_passes)
+
+-- ---- the same over filemarks, of which `left` are left at a place
+
+module _ (s : List ℕ) (kinds left at : ℕ) where
+  pub marks_on_full : (ahead : ℕ) → left ≡ 0 → marks_on s kinds ahead left at ≡ halts at 0 Full
   unfolding marks_on
-  marks_on_done zero zero m i h z = rw z i
-  marks_on_done (suc ahead) zero m i h z = rw z i
-  marks_on_done ahead (suc left) m i h z = absurd (not-suc-le-zero h)
+  marks_on_full zero e = rw e refl
+  marks_on_full (suc ahead) e = rw e refl
 
-  pub marks_on_end : (end left : ℕ) (m : Moved) → marks_on s kinds (end - p) left p ≡ X → 0 < left → end ≤ p → m ≡ halts p left AtEnd → m ≡ X
+  pub marks_on_at_end : (end : ℕ) → (left ≡ 0 → ⊥) → at ≡ end → marks_on s kinds (end - at) left at ≡ halts at left AtEnd
   unfolding marks_on
-  marks_on_end end left m i h e q =
-      let z : end - p ≡ 0 = omega arith in
-      rw q (rw (z, ne_eqb left 0 (λ x. omega arith)) at i)
+  marks_on_at_end end f e = rw (none_left end at e, ne_eqb left 0 f) refl
 
-  pub marks_on_next : (end left new : ℕ) (kind : Kind) → marks_on s kinds (end - p) left p ≡ X → 0 < left → p < end
-      → kind ≡ kind_at s kinds p → new ≡ marks_left kind left → marks_on s kinds (end - (p + 1)) new (p + 1) ≡ X
+  pub marks_on_passes : (end : ℕ) → (left ≡ 0 → ⊥) → at < end
+      → marks_on s kinds (end - at) left at ≡ marks_on s kinds (end - (at + 1)) (marks_left (kind_at s kinds at) left) (at + 1)
   unfolding marks_on
-  marks_on_next end left new kind i h l e q =
-      let z : end - p ≡ suc (end - (p + 1)) = omega arith in
-      rw (q, e) (rw (z, ne_eqb left 0 (λ x. omega arith)) at i)
+  marks_on_passes end f l = rw (some_left end at l, ne_eqb left 0 f) refl
 
-module _ (s : List ℕ) (kinds : ℕ) (X : Moved) where
-  -- ---- blocks back
+pub ruleset marks_on_ways = (marks_on_full, marks_on_at_end, marks_on_passes)
 
-  pub back_done : (p left : ℕ) (m : Moved) → blocks_back s kinds p left ≡ X → left ≤ 0 → m ≡ halts p 0 Full → m ≡ X
-  unfolding blocks_back
-  back_done p zero m i h z = rw z i
-  back_done p (suc left) m i h z = absurd (not-suc-le-zero h)
-
-  pub back_start : (p left : ℕ) (m : Moved) → blocks_back s kinds p left ≡ X → 0 < left → p ≡ 0 → m ≡ halts 0 left AtBeginning → m ≡ X
-  unfolding blocks_back
-  back_start p zero m i h e z = absurd (not-suc-le-zero h)
-  back_start p (suc left) m i h e z = rw z (rw e at i)
-
-  pub back_mark : (p left : ℕ) (m : Moved) (kind : Kind) (b : Bool) → blocks_back s kinds p left ≡ X → 0 < left → (p ≡ 0 → ⊥)
-      → kind ≡ kind_at s kinds (p - 1) → b ≡ is_filemark kind → b ≡ true → m ≡ halts (p - 1) left AtFilemark → m ≡ X
-  unfolding blocks_back
-  back_mark p zero m kind b i h n e q t z = absurd (not-suc-le-zero h)
-  back_mark zero (suc left) m kind b i h n e q t z = absurd (n refl)
-  back_mark (suc p) (suc left) m kind b i h n e q t z = rw z (rw sub-one (rw (← (rw sub-one at e), ← q, t) at i))
-
-  pub back_next : (p left : ℕ) (kind : Kind) (b : Bool) → blocks_back s kinds p left ≡ X → 0 < left → (p ≡ 0 → ⊥)
-      → kind ≡ kind_at s kinds (p - 1) → b ≡ is_filemark kind → b ≡ false → blocks_back s kinds (p - 1) (left - 1) ≡ X
-  unfolding blocks_back
-  back_next p zero kind b i h n e q t = absurd (not-suc-le-zero h)
-  back_next zero (suc left) kind b i h n e q t = absurd (n refl)
-  back_next (suc p) (suc left) kind b i h n e q t = simp sub-one (rw (← (rw sub-one at e), ← q, t) at i)
-
-  -- ---- filemarks back
-
-  pub marks_back_done : (p left : ℕ) (m : Moved) → marks_back s kinds p left ≡ X → left ≤ 0 → m ≡ halts p 0 Full → m ≡ X
+module _ (s : List ℕ) (kinds left : ℕ) where
+  pub marks_back_full : (at : ℕ) → left ≡ 0 → marks_back s kinds at left ≡ halts at 0 Full
   unfolding marks_back
-  marks_back_done zero zero m i h z = rw z i
-  marks_back_done (suc p) zero m i h z = rw z i
-  marks_back_done p (suc left) m i h z = absurd (not-suc-le-zero h)
+  marks_back_full zero e = rw e refl
+  marks_back_full (suc at) e = rw e refl
 
-  pub marks_back_start : (p left : ℕ) (m : Moved) → marks_back s kinds p left ≡ X → 0 < left → p ≡ 0 → m ≡ halts 0 left AtBeginning → m ≡ X
+  pub marks_back_at_start : (at : ℕ) → (left ≡ 0 → ⊥) → at ≡ 0 → marks_back s kinds at left ≡ halts 0 left AtBeginning
   unfolding marks_back
-  marks_back_start p left m i h e z = rw z (rw (e, ne_eqb left 0 (λ x. omega arith)) at i)
+  marks_back_at_start at f e = rw (e, ne_eqb left 0 f) refl
 
-  pub marks_back_next : (p left new : ℕ) (kind : Kind) → marks_back s kinds p left ≡ X → 0 < left → (p ≡ 0 → ⊥)
-      → kind ≡ kind_at s kinds (p - 1) → new ≡ marks_left kind left → marks_back s kinds (p - 1) new ≡ X
+  pub marks_back_passes : (at : ℕ) → (left ≡ 0 → ⊥) → marks_back s kinds (at + 1) left ≡ marks_back s kinds at (marks_left (kind_at s kinds at) left)
   unfolding marks_back
-  marks_back_next zero left new kind i h n e q = absurd (n refl)
-  marks_back_next (suc p) left new kind i h n e q = rw (q, e, sub-one) (rw (ne_eqb left 0 (λ x. omega arith)) at i)
+  marks_back_passes at f = let z : at + 1 ≡ suc at = omega arith in rw (z, ne_eqb left 0 f) refl
 
-pub ruleset ways = (on_done, on_end, on_mark, marks_on_done, marks_on_end, back_done, back_start, back_mark, marks_back_done, marks_back_start)
+pub ruleset marks_back_ways = (marks_back_full, marks_back_at_start, marks_back_passes)
 
 -- ---- the whole run
 

@@ -5,8 +5,6 @@ use mathlib.Core.Path.{◌≡◌, refl}
 use mathlib.Core.Bool.{Bool, true, false}
 use mathlib.Core.List.{List}
 use Prim.Native.Nat.{ℕ, zero, suc, ◌+◌, ◌-◌, ◌<◌, ◌≤◌}
-use native.Mathlib.Nat.{not-suc-le-zero}
-use native.Mathlib.Numerals.{sub-one}
 use native.Mathlib.Omega.{arith}
 use borrow.Author.Tests.{le-leb, lt-leb, leb-true, leb-false}
 use lib.Dec.{leb}
@@ -14,31 +12,34 @@ use Rattle.transfer.specs.declared.Moved.{Moved}
 use Rattle.transfer.specs.declared.Stop.TheVariants.{Full, AtEnd}
 use Rattle.transfer.specs.Moving.{halts}
 use Rattle.transfer.specs.Writing.{Writing, writes, lay_from}
-use Rattle.transfer.proofs.EndLaws.{Ended, ended_full, ended_short, ended_on, end_short}
+use Rattle.transfer.proofs.EndLaws.{none_left, some_left, Ended, ended_full, ended_short, ended_on, end_short}
 
 -- from place p on, n were asked for: each one done is one place
 record Advanced (n p : ℕ) (m : Moved) : Type 0 where
   ended : Ended n m
   passed : m.place + m.left ≡ p + n
 
+-- ---- the loops' steps: of n asked for, `done` are done
+
+module _ (lay : ℕ → ℕ → List ℕ → List ℕ) (size end n done off p : ℕ) (s : List ℕ) where
+  pub lay_full : done ≡ n → lay_from lay size end (n - done) off (p + done) s ≡ writes s (halts (p + done) 0 Full)
+  unfolding lay_from
+  lay_full e = rw (none_left n done e) refl
+
+  pub lay_at_end : done < n → end ≤ p + done → lay_from lay size end (n - done) off (p + done) s ≡ writes s (halts (p + done) (n - done) AtEnd)
+  unfolding lay_from
+  lay_at_end l e = rw (some_left n done l, le-leb end (p + done) e) refl
+
+  pub lay_lays : done < n → p + done < end
+      → lay_from lay size end (n - done) off (p + done) s ≡ lay_from lay size end (n - (done + 1)) (off + size) (p + (done + 1)) (lay off (p + done) s)
+  unfolding lay_from
+  lay_lays l e =
+      let y : p + done + 1 ≡ p + (done + 1) = omega arith in
+      rw (some_left n done l, lt-leb end (p + done) e, y) refl
+
+pub ruleset lay_ways = (lay_full, lay_at_end, lay_lays)
+
 module _ (lay : ℕ → ℕ → List ℕ → List ℕ) (size end : ℕ) where
-  module _ (off p : ℕ) (s : List ℕ) (X : Writing) where
-    pub lay_done : (left : ℕ) (m : Moved) → lay_from lay size end left off p s ≡ X → left ≤ 0 → m ≡ halts p 0 Full → writes s m ≡ X
-    unfolding lay_from
-    lay_done zero m i h z = rw z i
-    lay_done (suc left) m i h z = absurd (not-suc-le-zero h)
-
-    pub lay-end : (left : ℕ) (m : Moved) → lay_from lay size end left off p s ≡ X → 0 < left → end ≤ p → m ≡ halts p left AtEnd → writes s m ≡ X
-    unfolding lay_from
-    lay-end zero m i h e z = absurd (not-suc-le-zero h)
-    lay-end (suc left) m i h e z = rw z (rw (le-leb end p e) at i)
-
-    pub lay-next : (left : ℕ) (new : List ℕ) → lay_from lay size end left off p s ≡ X → 0 < left → p < end → new ≡ lay off p s
-        → lay_from lay size end (left - 1) (off + size) (p + 1) new ≡ X
-    unfolding lay_from
-    lay-next zero new i h l e = absurd (not-suc-le-zero h)
-    lay-next (suc left) new i h l e = rw (e, sub-one) (rw (lt-leb end p l) at i)
-
   -- ---- the whole run
 
   -- how a run of n elements goes, step by step, to its outcome

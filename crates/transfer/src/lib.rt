@@ -1,4 +1,4 @@
-// Runs over the tape, one loop each: plain numbers in, no record and no sense.
+// Runs over the tape, one loop each: a header and plain numbers in, no record and no sense.
 #![tactic(auto)]
 
 ghost use Rattle.std.specs.Prelude.{◌≡◌};
@@ -26,6 +26,7 @@ pub struct Moved {
     pub stop: Stop,
 }
 
+// A word, since the literal with its fields' names takes five lines at each end of a run.
 pub fn halt(place: u32, left: u32, stop: Stop) -> Moved
     ensures { result ≡ halts place left stop }
 {

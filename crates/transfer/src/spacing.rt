@@ -1,90 +1,81 @@
-// 01, 11h SPACE.
+// 01, 11h SPACE. Two loops each way: a filemark ends a run over blocks, and is what a run over filemarks counts.
 ghost use Rattle.std.specs.Prelude.{◌≡◌, ◌+◌, ◌-◌, ◌≤◌, length};
-ghost use Rattle.transfer.specs.Spacing.{marks_left, blocks_on, blocks_back, marks_on, marks_back};
+ghost use Rattle.transfer.specs.Spacing.{blocks_on, blocks_back, marks_on, marks_back};
 
 use crate::{Moved, Stop, halt};
-use image::elements::{Kind, is_filemark, kind_at};
+use image::header::Header;
 
-fn marks_left(kind: Kind, left: u32) -> u32
-    requires { 1 ≤ left }
-    ensures { result ≡ marks_left kind left }
+#[tactic(auto, using(crate::proofs::SpaceLaws::on_ways))]
+pub fn blocks_on(image: &[u8], h: Header, end: u32, n: u32, p: u32) -> Moved
+    requires { (h.kinds + end ≤ length image.now) × (p ≤ end) }
+    ensures { result ≡ blocks_on image.now h.kinds end n p }
 {
-    let mark = is_filemark(kind);
-    if mark {
-        return left - 1;
-    }
-    left
-}
-
-pub fn blocks_on(image: &[u8], kinds: u32, end: u32, n: u32, p: u32) -> Moved
-    requires { (kinds + end ≤ length image.now) × (p ≤ end) }
-    ensures { result ≡ blocks_on image.now kinds end n p }
-{
-    let mut left = n;
-    let mut at = p;
-    while left > 0 {
+    for done in 0..n {
+        let at = p + done;
         if at >= end {
-            return halt(at, left, Stop::AtEnd);
+            return halt(at, n - done, Stop::AtEnd);
         }
-        let mark = is_filemark(kind_at(image, kinds, at));
-        at = at + 1;
-        if mark {
-            return halt(at, left, Stop::AtFilemark);
+        if h.kind_at(image, at).is_filemark() {
+            return halt(at + 1, n - done, Stop::AtFilemark);
         }
-        left = left - 1;
     }
-    halt(at, 0, Stop::Full)
+    halt(p + n, 0, Stop::Full)
 }
 
-pub fn blocks_back(image: &[u8], kinds: u32, n: u32, p: u32) -> Moved
-    requires { kinds + p ≤ length image.now }
-    ensures { result ≡ blocks_back image.now kinds p n }
+#[tactic(auto, using(crate::proofs::SpaceLaws::back_ways))]
+pub fn blocks_back(image: &[u8], h: Header, n: u32, p: u32) -> Moved
+    requires { h.kinds + p ≤ length image.now }
+    ensures { result ≡ blocks_back image.now h.kinds p n }
 {
-    let mut left = n;
-    let mut at = p;
-    while left > 0 {
+    for done in 0..n {
+        let at = p - done;
         if at == 0 {
-            return halt(0, left, Stop::AtBeginning);
+            return halt(0, n - done, Stop::AtBeginning);
         }
         let back = at - 1;
-        let mark = is_filemark(kind_at(image, kinds, back));
-        if mark {
-            return halt(back, left, Stop::AtFilemark);
+        if h.kind_at(image, back).is_filemark() {
+            return halt(back, n - done, Stop::AtFilemark);
         }
-        at = back;
-        left = left - 1;
     }
-    halt(at, 0, Stop::Full)
+    halt(p - n, 0, Stop::Full)
 }
 
-pub fn marks_on(image: &[u8], kinds: u32, end: u32, n: u32, p: u32) -> Moved
-    requires { (kinds + end ≤ length image.now) × (p ≤ end) }
-    ensures { result ≡ marks_on image.now kinds (end - p) n p }
+#[tactic(auto, using(crate::proofs::SpaceLaws::marks_on_ways))]
+pub fn marks_on(image: &[u8], h: Header, end: u32, n: u32, p: u32) -> Moved
+    requires { (h.kinds + end ≤ length image.now) × (p ≤ end) }
+    ensures { result ≡ marks_on image.now h.kinds (end - p) n p }
 {
     let mut left = n;
-    let mut at = p;
-    while left > 0 {
-        if at >= end {
-            return halt(at, left, Stop::AtEnd);
+    for at in p..end {
+        if left == 0 {
+            return halt(at, 0, Stop::Full);
         }
-        left = marks_left(kind_at(image, kinds, at), left);
-        at = at + 1;
+        if h.kind_at(image, at).is_filemark() {
+            left -= 1;
+        }
     }
-    halt(at, 0, Stop::Full)
+    if left == 0 {
+        return halt(end, 0, Stop::Full);
+    }
+    halt(end, left, Stop::AtEnd)
 }
 
-pub fn marks_back(image: &[u8], kinds: u32, n: u32, p: u32) -> Moved
-    requires { kinds + p ≤ length image.now }
-    ensures { result ≡ marks_back image.now kinds p n }
+#[tactic(auto, using(crate::proofs::SpaceLaws::marks_back_ways))]
+pub fn marks_back(image: &[u8], h: Header, n: u32, p: u32) -> Moved
+    requires { h.kinds + p ≤ length image.now }
+    ensures { result ≡ marks_back image.now h.kinds p n }
 {
     let mut left = n;
-    let mut at = p;
-    while left > 0 {
-        if at == 0 {
-            return halt(0, left, Stop::AtBeginning);
+    for at in (0..p).rev() {
+        if left == 0 {
+            return halt(at + 1, 0, Stop::Full);
         }
-        at = at - 1;
-        left = marks_left(kind_at(image, kinds, at), left);
+        if h.kind_at(image, at).is_filemark() {
+            left -= 1;
+        }
     }
-    halt(at, 0, Stop::Full)
+    if left == 0 {
+        return halt(0, 0, Stop::Full);
+    }
+    halt(0, left, Stop::AtBeginning)
 }

@@ -1,58 +1,44 @@
-// 01, 0Ah WRITE and 10h WRITE FILEMARK.
+// 01, 0Ah WRITE and 10h WRITE FILEMARK. Two loops: one over a closure would say at length what the closure asks at each element.
 ghost use Rattle.std.specs.Prelude.{◌≡◌, ◌+◌, ◌*◌, ◌≤◌, length};
 ghost use Rattle.transfer.specs.Writing.{writes, write_from, mark_from};
 
 use crate::{Moved, Stop, halt};
-use image::elements::{lay_block, lay_mark};
+use image::header::{Header, span};
 
-pub fn write_blocks(
-    image: &mut [u8],
-    size: u16,
-    kinds: u32,
-    blocks: u32,
-    end: u32,
-    src: &[u8],
-    n: u32,
-    p: u32,
-) -> Moved
-    requires size_bound { size ≤ 1024 }
+#[tactic(auto, using(crate::proofs::WriteLaws::lay_ways))]
+pub fn write_blocks(image: &mut [u8], h: Header, end: u32, src: &[u8], n: u32, p: u32) -> Moved
+    requires size_bound { h.size ≤ 1024 }
     requires end_bound { end ≤ 65535 }
-    requires end_bound_2 { kinds + end ≤ blocks }
-    requires size_in_bounds { blocks + end * size ≤ length image.old }
+    requires end_bound_2 { h.kinds + end ≤ h.blocks }
+    requires size_in_bounds { h.blocks + end * h.size ≤ length image.old }
     requires p_le_end { p ≤ end }
-    requires size_in_bounds_2 { n * size ≤ length src.now }
-    ensures { writes image.new result ≡ write_from size kinds blocks end src.now n 0 p image.old }
+    requires size_in_bounds_2 { n * h.size ≤ length src.now }
+    ensures { writes image.new result ≡ write_from h.size h.kinds h.blocks end src.now n 0 p image.old }
 {
-    let mut left = n;
-    let mut at = p;
-    let mut off: usize = 0; // a place in the buffer
-    while left > 0 {
+    for done in 0..n {
+        let at = p + done;
         if at >= end {
-            return halt(at, left, Stop::AtEnd);
+            return halt(at, n - done, Stop::AtEnd);
         }
-        lay_block(image, size, kinds, blocks, at, src, off);
-        off = off + size as usize;
-        at = at + 1;
-        left = left - 1;
+        let off = span(done, h.size) as usize; // a place in the buffer
+        h.lay_block(image, at, &src[off..off + h.size as usize]);
     }
-    halt(at, 0, Stop::Full)
+    halt(p + n, 0, Stop::Full)
 }
 
-pub fn write_filemarks(image: &mut [u8], kinds: u32, end: u32, n: u32, p: u32) -> Moved
+#[tactic(auto, using(crate::proofs::WriteLaws::lay_ways))]
+pub fn write_filemarks(image: &mut [u8], h: Header, end: u32, n: u32, p: u32) -> Moved
     requires end_bound { end ≤ 65535 }
-    requires end_in_bounds { kinds + end ≤ length image.old }
+    requires end_in_bounds { h.kinds + end ≤ length image.old }
     requires p_le_end { p ≤ end }
-    ensures { writes image.new result ≡ mark_from kinds end n p image.old }
+    ensures { writes image.new result ≡ mark_from h.kinds end n p image.old }
 {
-    let mut left = n;
-    let mut at = p;
-    while left > 0 {
+    for done in 0..n {
+        let at = p + done;
         if at >= end {
-            return halt(at, left, Stop::AtEnd);
+            return halt(at, n - done, Stop::AtEnd);
         }
-        lay_mark(image, kinds, at);
-        at = at + 1;
-        left = left - 1;
+        h.lay_mark(image, at);
     }
-    halt(at, 0, Stop::Full)
+    halt(p + n, 0, Stop::Full)
 }

@@ -1,11 +1,7 @@
 -- `spacing::marks_back` meets its contract. The invariant: what is left to do gives what the whole gives.
-use mathlib.Core.Path.{◌≡◌}
-use Prim.Native.Nat.{◌≤◌}
+use Rattle.std.proofs.Common.{◌≡◌}
 use Rattle.transfer.specs.Spacing.{marks_back}
 use Rattle.transfer.proofs.spacing.marks_back.Given as goal
 
-abbrev pub invariant-loop-left : goal.invariant-loop-left
-invariant-loop-left l = (marks_back l.image l.kinds l.at l.left ≡ marks_back l.image l.kinds l.p l.n) × (l.at ≤ l.p)
-
-abbrev pub decreases-loop-left : goal.decreases-loop-left
-decreases-loop-left l = l.at
+abbrev pub invariant-loop-at : goal.invariant-loop-at
+invariant-loop-at l = marks_back l.image l.h.kinds l.at l.left ≡ marks_back l.image l.h.kinds l.p l.n
