@@ -25,6 +25,7 @@ fn element_length(kind: Kind, size: u16) -> usize
     size as usize + 8
 }
 
+// image and header are two parameters: tied in one type, their clauses are no shorter, and an import, which changes its image, could not use it
 #[tactic(auto, using(crate::proofs::ExportLaws::length_ways))]
 fn export_length(image: &[u8], h: Header) -> usize
     requires { header_of image.now ≡ Some h }
