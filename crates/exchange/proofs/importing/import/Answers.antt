@@ -11,7 +11,7 @@ pub set_recorded-requires : goal.set_recorded-requires
 set_recorded-requires c =
     let good : header_of c.args.image.now ≡ Some c.in_ok-h.h = grind arith in
     let g = sound _ _ good in
-    omega (arith, c.store_elements.auto)
+    omega arith
 
 pub returns : goal.returns
 returns c =
