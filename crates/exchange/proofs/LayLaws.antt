@@ -8,7 +8,7 @@ use Prim.Native.Nat.{ℕ, zero, suc, ◌+◌, ◌<◌, ◌≤◌}
 use native.Mathlib.Omega.{arith}
 use lib.ListN.{length, get_or}
 use Rattle.image.specs.declared.header.Header.{Header}
-use Rattle.image.specs.declared.header.Judged.TheVariants.{Good}
+use Rattle.std.specs.Prelude.{Some}
 use Rattle.image.specs.Header.{header_of}
 use Rattle.image.specs.Elements.{data_kind, filemark_kind, unreadable_kind}
 use Rattle.image.specs.Sameness.{SameElement}
@@ -30,7 +30,7 @@ kind_stored TapeMark = filemark_kind
 kind_stored (Block false bytes) = data_kind
 kind_stored (Block true bytes) = unreadable_kind
 
-module _ (s : List ℕ) (h : Header) (good : header_of s ≡ Good h) (i : ℕ) (within : i < h.capacity) where
+module _ (s : List ℕ) (h : Header) (good : header_of s ≡ Some h) (i : ℕ) (within : i < h.capacity) where
   pub element_laid : (e : Element) → IsWhole h.size e → OneLaid h (OffElement h e i) i s (lay_element h e i s)
   element_laid TapeMark w = mark_laid s h good i within
   element_laid (Block false bytes) w = block-laid s h good i within bytes w
@@ -48,14 +48,14 @@ module _ (s : List ℕ) (h : Header) (good : header_of s ≡ Good h) (i : ℕ) (
   element_byte (Block true bytes) w = unreadable-byte s h good i within bytes w
 
 -- a kind's byte is none that the storing of another element touches
-kind_off : (s : List ℕ) (h : Header) → header_of s ≡ Good h → (e : Element) (i j : ℕ) → j < h.capacity → (j ≡ i → ⊥) → OffElement h e i (h.kinds + j)
+kind_off : (s : List ℕ) (h : Header) → header_of s ≡ Some h → (e : Element) (i j : ℕ) → j < h.capacity → (j ≡ i → ⊥) → OffElement h e i (h.kinds + j)
 kind_off s h good TapeMark i j b n = λ q. n (omega arith)
 kind_off s h good (Block unreadable bytes) i j b n = let g = sound s h good in ((λ q. n (omega arith)), inl (omega arith))
 
 -- ---- elements laid one after the other from place i on
 
 pub record Laid (h : Header) (es : List Element) (i : ℕ) (s t : List ℕ) : Type 0 where
-  pub header : header_of t ≡ Good h
+  pub header : header_of t ≡ Some h
   pub size : length t ≡ length s
   pub here : elements_from t h (length es) i ≡ es
   pub bytes : (k : ℕ) → k < length es → get_or t (h.kinds + (i + k)) 0 ≡ kind_stored (get_or es k TapeMark)
@@ -63,7 +63,7 @@ pub record Laid (h : Header) (es : List Element) (i : ℕ) (s t : List ℕ) : Ty
   pub apart : (m : ℕ) → ((k : ℕ) → k < length es → OffElement h (get_or es k TapeMark) (i + k) m) → get_or t m 0 ≡ get_or s m 0
 
 module _ (h : Header) where
-  laid_none : (i : ℕ) (s : List ℕ) → header_of s ≡ Good h → Laid h [] i s s
+  laid_none : (i : ℕ) (s : List ℕ) → header_of s ≡ Some h → Laid h [] i s s
   unfolding elements_from
   laid_none i s good =
       record {
@@ -78,7 +78,7 @@ module _ (h : Header) where
   same_element : (s t : List ℕ) (i : ℕ) → SameElement h s t i → element_at t h i ≡ element_at s h i
   same_element s t i e = rw (e.kind, e.bytes) refl
 
-  laid_more : (e : Element) (es : List Element) (i : ℕ) (s t : List ℕ) → header_of s ≡ Good h → IsWhole h.size e → i < h.capacity
+  laid_more : (e : Element) (es : List Element) (i : ℕ) (s t : List ℕ) → header_of s ≡ Some h → IsWhole h.size e → i < h.capacity
       → Laid h es (i + 1) (lay_element h e i s) t → Laid h (e ∷ es) i s t
   unfolding elements_from
   laid_more e es i s t good w b x =
@@ -108,7 +108,7 @@ module _ (h : Header) where
       first_byte zero p f l = let z : i + 0 ≡ i = omega arith in rw z p
       first_byte (suc k) p f l = let z : i + suc k ≡ i + 1 + k = omega arith in rw z (f k (omega arith))
 
-  pub elements_laid : (es : List Element) (i : ℕ) (s : List ℕ) → header_of s ≡ Good h → AllWhole h.size es → i + length es ≤ h.capacity
+  pub elements_laid : (es : List Element) (i : ℕ) (s : List ℕ) → header_of s ≡ Some h → AllWhole h.size es → i + length es ≤ h.capacity
       → Laid h es i s (lay_elements h es i s)
   unfolding lay_elements
   elements_laid [] i s good w b = laid_none i s good

@@ -1,15 +1,17 @@
 -- 02, A7: "Write ours out."
 -- Assumes nothing.
-use Rattle.std.specs.Prelude.{ℕ, zero, suc, ◌+◌, true, false, not, List, [], ◌∷◌, ◌≡◌, length, if◌then◌else◌}
+use Rattle.std.specs.Prelude.{ℕ, zero, suc, ◌+◌, true, false, not, List, [], ◌∷◌, ◌≡◌, length, if◌then◌else◌, Result}
 use Rattle.numbers.specs.Choice.{◌<ᵇ◌}
 use Rattle.numbers.specs.Over.{over}
+use Rattle.numbers.specs.declared.refusals.Refusal.{Refusal}
 use Rattle.image.specs.declared.elements.Kind.{Kind}
 use Rattle.image.specs.declared.elements.Kind.TheVariants.{Data, Filemark, Unreadable, Marked}
 use Rattle.image.specs.declared.header.Header.{Header}
 use Rattle.image.specs.Elements.{kind_at, block_at, is_filemark}
 use Rattle.image.specs.Header.{fields_of, keeps_header_rules, broken_image}
-use Rattle.packet_state.specs.declared.state.Answer.{Answer}
-use Rattle.packet_parts.specs.Answers.{refusal, answered, good_status, short_buffer}
+use Rattle.packet_state.specs.declared.state.Told.{Told}
+use Rattle.packet_state.specs.Answers.{Answer, refusal, answer_of}
+use Rattle.packet_parts.specs.Answers.{answered, good_status, short_buffer}
 use Rattle.tap.specs.Files.{Element, TapeMark, Block, file_of}
 
 -- "A block becomes a record of B bytes, an unreadable one has the high bit of its length set, a marked one is written as plain data."
@@ -53,5 +55,5 @@ exports s file =
 
 -- ---- the promise of the public call
 
-abbrev pub ExportPromise : List ℕ → List ℕ → Answer → List ℕ → Type 0
-ExportPromise s file answer left = exported answer left ≡ exports s file
+abbrev pub ExportPromise : List ℕ → List ℕ → Result Told Refusal → List ℕ → Type 0
+ExportPromise s file result left = exported (answer_of result) left ≡ exports s file

@@ -1,13 +1,15 @@
 -- 02, A7: "read theirs in."
 -- Assumes nothing.
-use Rattle.std.specs.Prelude.{ℕ, ◌+◌, true, false, not, List, [], ◌∷◌, ◌≡◌, length, if◌then◌else◌}
+use Rattle.std.specs.Prelude.{ℕ, ◌+◌, true, false, not, List, [], ◌∷◌, ◌≡◌, length, if◌then◌else◌, Result}
+use Rattle.numbers.specs.Refusals.{number_of}
+use Rattle.numbers.specs.declared.refusals.Refusal.{Refusal}
 use Rattle.image.specs.declared.header.Header.{Header}
 use Rattle.image.specs.Elements.{lay_block, lay_unreadable, lay_mark, set_recorded}
 use Rattle.image.specs.Header.{fields_of, keeps_header_rules, broken_image}
 use Rattle.packet_state.specs.declared.state.Outcome.{Outcome}
 use Rattle.packet_state.specs.declared.state.State.{State}
 use Rattle.packet_state.specs.States.{changed_state}
-use Rattle.packet_parts.specs.Answers.{Left, done, answered, good_status}
+use Rattle.packet_parts.specs.Answers.{Left, done, left, told, good_status}
 use Rattle.packet_parts.specs.Shell.{refuses}
 use Rattle.tap.specs.Files.{Element, TapeMark, Block, Reading, Refused, Holds, reads}
 
@@ -28,9 +30,9 @@ taken_into h es s = set_recorded (lay_elements h es 0 s) (length es)
 
 -- "leaves the packet record as after a cartridge change"; the answer tells the elements stored and the bytes used
 unfoldable pub imports_as : List ℕ → Header → State → List ℕ → Reading → Left State
-imports_as s h st file (Refused number) = refuses st number s file
+imports_as s h st file (Refused reason) = refuses st (number_of reason) s file
 imports_as s h st file (Holds es used) =
-    done (record { answer = answered good_status (length es) used; state = changed_state st }) (taken_into h es s) file
+    done (record { answer = told good_status (length es) used; state = changed_state st }) (taken_into h es s) file
 
 -- all that an import leaves: answer and record, image, and the file as it was. "2 comes before these"; write protection and the record are not looked at
 unfoldable pub imports : List ℕ → State → List ℕ → Left State
@@ -40,5 +42,5 @@ imports s st file =
 
 -- ---- the promise of the public call
 
-abbrev pub ImportPromise : List ℕ → State → List ℕ → Outcome → List ℕ → Type 0
-ImportPromise s st file outcome image = done outcome image file ≡ imports s st file
+abbrev pub ImportPromise : List ℕ → State → List ℕ → Result (Outcome State) Refusal → List ℕ → Type 0
+ImportPromise s st file result image = left st result image file ≡ imports s st file

@@ -7,34 +7,38 @@ use mathlib.Core.Path.{◌≡◌, refl, sym, ap, ◌∙◌, subst}
 use native.Mathlib.Omega.{arith}
 use borrow.Author.Tests.{eq-eqb, ne_eqb, eqb-true, eqb-false}
 use lib.Dec.{eqb}
+use Rattle.numbers.specs.Refusals.{number_of as number}
+use Rattle.numbers.specs.declared.refusals.Refusal.TheVariants.{TooManyItems}
 use Rattle.numbers.proofs.Cases.{test}
 use Rattle.image.specs.Header.{fields_of}
 use Rattle.packet_state.specs.declared.state.State.{State}
-use Rattle.packet_parts.specs.Answers.{Left, refusal}
+use Rattle.packet_state.specs.Answers.{refusal}
+use Rattle.packet_parts.specs.Answers.{Left}
 use Rattle.packet_parts.specs.Shell.{refuses}
 use Rattle.packet_laws.specs.Words.{number_of, Refusal}
 use Rattle.tap.specs.declared.items.Item.{Item}
 use Rattle.tap.specs.declared.items.Item.TheVariants.{Ends, Mark, Record, Cut}
-use Rattle.tap.specs.Files.{Element, TapeMark, Reading, Refused, Holds, record_in, with_first, met, reads, too_many}
+use Rattle.tap.specs.Files.{Element, TapeMark, Reading, Refused, Holds, record_in, with_first, met, reads}
 use Rattle.tap.specs.Items.{item_at}
 use Rattle.exchange.specs.Exporting.{Exported}
 use Rattle.exchange_laws.specs.Demands.{RefusedKeeps, NumberExactly, Settled}
 use Rattle.exchange_laws.specs.Words.{TakenTo, a_mark, a_record, DueFrom, cut_here, other_size, no_room, ends_here, goes_on}
 use Rattle.exchange_laws.specs.Words.{DueImport, bad_image, by_items, DueExport, too_short, written}
 use Rattle.exchange_laws.specs.Words.{broken as no-image}
+use Rattle.exchange_laws.proofs.Settling.{told_settled, left_settled}
 use Rattle.exchange_laws.proofs.Ways.{ImportWay, broken, refused, taken, import_way, ExportWay, bad, short, well, export_way}
 
 -- the number that a reading gives
 abbrev number_in : Reading → ℕ
-number_in (Refused number) = number
+number_in (Refused reason) = number reason
 number_in (Holds es used) = 0
 
 first_number : (e : Element) (x : Reading) → number_in (with_first e x) ≡ number_in x
-first_number e (Refused number) = refl
+first_number e (Refused reason) = refl
 first_number e (Holds es used) = refl
 
 module _ (size : ℕ) (file : List ℕ) where
-  due_full : (at : ℕ) (x : Item) → item_at file at ≡ x → DueFrom size file zero at (number_in (met size file (λ e next. Refused too_many) x))
+  due_full : (at : ℕ) (x : Item) → item_at file at ≡ x → DueFrom size file zero at (number_in (met size file (λ e next. Refused TooManyItems) x))
   unfolding met
   due_full at (Ends used) i = ends_here zero at used i
   due_full at Cut i = cut_here zero at i
@@ -63,7 +67,7 @@ module _ (size : ℕ) (file : List ℕ) where
   due (suc room) at = due_on room (due room) at (item_at file at) refl
 
   -- what is due is given
-  taken_full : (at next : ℕ) → TakenTo size file at next → number_in (reads size file zero at) ≡ too_many
+  taken_full : (at next : ℕ) → TakenTo size file at next → number_in (reads size file zero at) ≡ number TooManyItems
   unfolding reads met
   taken_full at next (a_mark n i) = rw i refl
   taken_full at next (a_record r i q) = rw (i, eq-eqb r.length size q) refl
@@ -91,19 +95,19 @@ module _ (s : List ℕ) (st : State) (file : List ℕ) where
 
   refused_by : {x : Left State} → ImportWay s st file x → (number_of x ≡ 0 → ⊥) → Refusal s st file x
   refused_by (broken b) f = refusal_is 2
-  refused_by (refused n g e) f = refusal_is n
+  refused_by (refused reason g e) f = refusal_is (number reason)
   refused_by (taken es used g e) f = absurd (f refl)
 
   import_due : {x : Left State} → ImportWay s st file x → DueImport s file (number_of x)
   import_due (broken b) = bad_image (λ e. true≢false (sym e ∙ b))
-  import_due (refused n g e) = by_items n g (rw e at (due (fields_of s).size file (fields_of s).capacity 0))
+  import_due (refused reason g e) = by_items (number reason) g (rw e at (due (fields_of s).size file (fields_of s).capacity 0))
   import_due (taken es used g e) = by_items 0 g (rw e at (due (fields_of s).size file (fields_of s).capacity 0))
 
   import_given : {x : Left State} {n : ℕ} → ImportWay s st file x → DueImport s file n → number_of x ≡ n
   import_given (broken b) (bad_image f) = refl
   import_given (broken b) (by_items n g d) = absurd (true≢false (sym g ∙ b))
-  import_given (refused m g e) (bad_image f) = absurd (f g)
-  import_given (refused m g e) (by_items n g' d) = rw e at (given (fields_of s).size file (fields_of s).capacity 0 n d)
+  import_given (refused reason g e) (bad_image f) = absurd (f g)
+  import_given (refused reason g e) (by_items n g' d) = rw e at (given (fields_of s).size file (fields_of s).capacity 0 n d)
   import_given (taken es used g e) (bad_image f) = absurd (f g)
   import_given (taken es used g e) (by_items n g' d) = rw e at (given (fields_of s).size file (fields_of s).capacity 0 n d)
 
@@ -152,10 +156,8 @@ number_exactly =
 pub settled : Settled
 settled =
     record {
-      imported = λ s st file r r' i i' p q.
-          let e = p ∙ sym q in
-          (ap (λ (x : Left State). record { answer = x.answer; state = x.state }) e, ap (λ (x : Left State). x.image) e);
+      imported = λ s st file r r' i i' p q. left_settled st file r r' i i' (p ∙ sym q);
       exported = λ s file r r' f f' p q.
           let e = p ∙ sym q in
-          (ap (λ (x : Exported). x.answer) e, ap (λ (x : Exported). x.file) e);
+          (told_settled r r' (ap (λ (x : Exported). x.answer) e), ap (λ (x : Exported). x.file) e);
     }

@@ -9,7 +9,7 @@ use lib.ListN.{length, get_or}
 use Rattle.image.specs.declared.elements.Kind.{Kind}
 use Rattle.image.specs.declared.elements.Kind.TheVariants.{Data, Filemark, Unreadable, Marked}
 use Rattle.image.specs.declared.header.Header.{Header}
-use Rattle.image.specs.declared.header.Judged.TheVariants.{Good}
+use Rattle.std.specs.Prelude.{Some}
 use Rattle.image.specs.Elements.{kind_at, block_at, is_filemark}
 use Rattle.image.specs.Header.{header_of}
 use Rattle.tap.specs.Files.{Element, TapeMark, Block, IsWhole, AllWhole, file_of}
@@ -74,7 +74,7 @@ module _ (s : List ℕ) (h : Header) where
   elements_nth (suc n) i zero l = let y : i + 0 ≡ i = omega arith in rw y refl
   elements_nth (suc n) i (suc k) l = let y : i + suc k ≡ i + 1 + k = omega arith in rw y (elements_nth n (i + 1) k (omega arith))
 
-  pub elements_whole : header_of s ≡ Good h → (n i : ℕ) → i + n ≤ h.capacity → AllWhole h.size (elements_from s h n i)
+  pub elements_whole : header_of s ≡ Some h → (n i : ℕ) → i + n ≤ h.capacity → AllWhole h.size (elements_from s h n i)
   unfolding elements_from
   elements_whole good zero i l = tt
   elements_whole good (suc n) i l = (

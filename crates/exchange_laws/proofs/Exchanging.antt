@@ -43,7 +43,7 @@ record Taking (s : List ℕ) (st : State) (file : List ℕ) (x : Left State) : T
 module _ (s : List ℕ) (st : State) (file : List ℕ) where
   taking_by : {x : Left State} → ImportWay s st file x → number_of x ≡ 0 → Taking s st file x
   taking_by (broken b) z = absurd (omega arith)
-  taking_by (refused n g e) z = absurd (omega (arith, refused_number (fields_of s).size file (fields_of s).capacity 0 n e))
+  taking_by (refused reason g e) z = absurd (omega (arith, refused_number (fields_of s).size file (fields_of s).capacity 0 reason e))
   taking_by (taken es used g e) z =
       let q : es ≡ found s file = sym (ap elements_in e) in
       record { good = g; used = used; held = rw (← q) e; is = rw q refl }

@@ -1,4 +1,5 @@
 pub mod Ways
+pub mod Settling
 pub mod Due
 pub mod Elements
 pub mod Storing

@@ -13,7 +13,7 @@ use Rattle.numbers.proofs.Cases.{test}
 use Rattle.numbers.proofs.CountLaws.{length_put_count}
 use Rattle.numbers.proofs.OverLaws.{part_same}
 use Rattle.image.specs.declared.header.Header.{Header}
-use Rattle.image.specs.declared.header.Judged.TheVariants.{Good}
+use Rattle.std.specs.Prelude.{Some}
 use Rattle.image.specs.Elements.{block_at}
 use Rattle.image.specs.Header.{header_of, with_recorded}
 use Rattle.image.specs.Sameness.{SameElement, Outside}
@@ -26,14 +26,14 @@ use Rattle.exchange.proofs.LayLaws.{OffElement, kind_stored, Laid, elements_laid
 use Rattle.exchange_laws.proofs.Elements.{elements_nth}
 
 pub record Stored (s : List ℕ) (h : Header) (es : List Element) (t : List ℕ) : Type 0 where
-  pub header : header_of t ≡ Good (with_recorded h (length es))
+  pub header : header_of t ≡ Some (with_recorded h (length es))
   pub size : length t ≡ length s
   pub here : (i : ℕ) → i < length es → element_at t h i ≡ get_or es i TapeMark
   pub bytes : (i : ℕ) → i < length es → get_or t (h.kinds + i) 0 ≡ kind_stored (get_or es i TapeMark)
   pub others : (j : ℕ) → length es ≤ j → j < h.capacity → SameElement h s t j
   pub apart : (m : ℕ) → Outside 8 4 m → ((k : ℕ) → k < length es → OffElement h (get_or es k TapeMark) k m) → get_or t m 0 ≡ get_or s m 0
 
-module _ (s : List ℕ) (h : Header) (good : header_of s ≡ Good h) (es : List Element) (whole : AllWhole h.size es) (fits : length es ≤ h.capacity) where
+module _ (s : List ℕ) (h : Header) (good : header_of s ≡ Some h) (es : List Element) (whole : AllWhole h.size es) (fits : length es ≤ h.capacity) where
   abbrev n : ℕ
   n = length es
 

@@ -9,10 +9,13 @@ use lib.Dec.{ltb}
 use lib.ListN.{length}
 use Rattle.numbers.specs.Over.{over}
 use Rattle.numbers.proofs.Cases.{test}
+use Rattle.numbers.specs.Refusals.{number_of}
+use Rattle.numbers.specs.declared.refusals.Refusal.{Refusal}
 use Rattle.image.specs.Header.{fields_of, keeps_header_rules, broken_image}
 use Rattle.packet_state.specs.declared.state.State.{State}
 use Rattle.packet_state.specs.States.{changed_state}
-use Rattle.packet_parts.specs.Answers.{Left, done, refusal, answered, good_status, short_buffer}
+use Rattle.packet_state.specs.Answers.{refusal}
+use Rattle.packet_parts.specs.Answers.{Left, done, told, answered, good_status, short_buffer}
 use Rattle.packet_parts.specs.Shell.{refuses}
 use Rattle.tap.specs.Files.{Element, Reading, Refused, Holds, reads, file_of}
 use Rattle.exchange.specs.Exporting.{Exported, elements_of, exported, exports}
@@ -25,11 +28,11 @@ reading s file = reads (fields_of s).size file (fields_of s).capacity 0
 -- what an import leaves that takes these elements
 abbrev pub taking : List ℕ → State → List ℕ → List Element → ℕ → Left State
 taking s st file es used =
-    done (record { answer = answered good_status (length es) used; state = changed_state st }) (taken_into (fields_of s) es s) file
+    done (record { answer = told good_status (length es) used; state = changed_state st }) (taken_into (fields_of s) es s) file
 
 pub data ImportWay (s : List ℕ) (st : State) (file : List ℕ) : Left State → Type 0 where
   broken : keeps_header_rules s ≡ false → ImportWay s st file (refuses st broken_image s file)
-  refused : (n : ℕ) → keeps_header_rules s ≡ true → reading s file ≡ Refused n → ImportWay s st file (refuses st n s file)
+  refused : (reason : Refusal) → keeps_header_rules s ≡ true → reading s file ≡ Refused reason → ImportWay s st file (refuses st (number_of reason) s file)
   taken : (es : List Element) (used : ℕ) → keeps_header_rules s ≡ true → reading s file ≡ Holds es used → ImportWay s st file (taking s st file es used)
 
 pub data ExportWay (s file : List ℕ) : Exported → Type 0 where
@@ -41,7 +44,7 @@ pub data ExportWay (s file : List ℕ) : Exported → Type 0 where
 module _ (s : List ℕ) (st : State) (file : List ℕ) where
   by_reading : (good : keeps_header_rules s ≡ true) (R : Reading) → reading s file ≡ R → ImportWay s st file (imports_as s (fields_of s) st file R)
   unfolding imports_as
-  by_reading good (Refused n) e = refused n good e
+  by_reading good (Refused reason) e = refused reason good e
   by_reading good (Holds es used) e = taken es used good e
 
   pub import_way : ImportWay s st file (imports s st file)

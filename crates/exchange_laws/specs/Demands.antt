@@ -1,14 +1,16 @@
 -- What the exchange with SIMH tape files promises (02, A7), one named type each; proofs/ proves them.
 -- Assumes nothing.
-use Rattle.std.specs.Prelude.{ℕ, ◌+◌, ◌*◌, ◌≤◌, ◌<◌, true, false, List, ◌++◌, ◌↔◌, ◌≡◌, length, get_or}
+use Rattle.std.specs.Prelude.{ℕ, ◌+◌, ◌*◌, ◌≤◌, ◌<◌, true, false, List, ◌++◌, ◌↔◌, ◌≡◌, length, get_or, Result}
 use Rattle.numbers.specs.Over.{over}
+use Rattle.numbers.specs.declared.refusals.Refusal.{Refusal as Reason}
 use Rattle.image.specs.declared.elements.Kind.TheVariants.{Data}
 use Rattle.image.specs.Header.{fields_of, keeps_header_rules}
 use Rattle.image.specs.Sameness.{IsBlockOf}
-use Rattle.packet_state.specs.declared.state.Answer.{Answer}
 use Rattle.packet_state.specs.declared.state.Outcome.{Outcome}
 use Rattle.packet_state.specs.declared.state.State.{State}
-use Rattle.packet_parts.specs.Answers.{refusal, answered, good_status}
+use Rattle.packet_state.specs.declared.state.Told.{Told}
+use Rattle.packet_state.specs.Answers.{refusal}
+use Rattle.packet_parts.specs.Answers.{answered, good_status}
 use Rattle.packet_laws.specs.Words.{number_of, Refusal}
 use Rattle.tap.specs.Files.{Element, TapeMark, Block, AllWhole, file_of}
 use Rattle.exchange.specs.Exporting.{elements_of, exported, exports, ExportPromise}
@@ -65,9 +67,9 @@ pub record ExportLength : Type 0 where
 
 -- 01: "Prove that any two outcomes allowed by it coincide"
 pub record Settled : Type 0 where
-  pub imported : (s : List ℕ) (st : State) (file : List ℕ) (r r' : Outcome) (image image' : List ℕ) → ImportPromise s st file r image
+  pub imported : (s : List ℕ) (st : State) (file : List ℕ) (r r' : Result (Outcome State) Reason) (image image' : List ℕ) → ImportPromise s st file r image
       → ImportPromise s st file r' image' → (r ≡ r') × (image ≡ image')
-  pub exported : (s file : List ℕ) (r r' : Answer) (left left' : List ℕ) → ExportPromise s file r left → ExportPromise s file r' left'
+  pub exported : (s file : List ℕ) (r r' : Result Told Reason) (left left' : List ℕ) → ExportPromise s file r left → ExportPromise s file r' left'
       → (r ≡ r') × (left ≡ left')
 
 -- A7 worked out by hand: exports and imports; so what is supposed above can be so

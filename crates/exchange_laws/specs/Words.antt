@@ -1,9 +1,8 @@
 -- The words in which the demands on the exchange are stated.
 -- Assumes nothing.
-use Rattle.std.specs.Prelude.{ℕ, zero, suc, ◌+◌, ◌*◌, ◌≤◌, ◌<◌, true, false, List, [], ◌∷◌, ◌≡◌, length, get_or}
+use Rattle.std.specs.Prelude.{ℕ, zero, suc, ◌+◌, ◌*◌, ◌≤◌, ◌<◌, true, false, List, [], ◌∷◌, ◌≡◌, length, get_or, Some}
 use Rattle.image.specs.declared.elements.Kind.{Kind}
 use Rattle.image.specs.declared.elements.Kind.TheVariants.{Data, Filemark, Unreadable, Marked}
-use Rattle.image.specs.declared.header.Judged.TheVariants.{Good}
 use Rattle.image.specs.Elements.{data_kind, filemark_kind, unreadable_kind, kind_at, block_at, is_filemark}
 use Rattle.image.specs.Header.{fields_of, header_of, keeps_header_rules, with_recorded, broken_image}
 use Rattle.image.specs.Sameness.{SameElement, Outside}
@@ -57,7 +56,7 @@ pub record Returned (s t : List ℕ) (bytes : ℕ) (x : Left State) : Type 0 whe
   pub told : x.answer ≡ answered good_status (fields_of s).recorded bytes
   pub elements : elements_of x.image ≡ elements_of s
   -- U is that of s, the rest of the header that of t
-  pub header : header_of x.image ≡ Good (with_recorded (fields_of t) (fields_of s).recorded)
+  pub header : header_of x.image ≡ Some (with_recorded (fields_of t) (fields_of s).recorded)
   pub kinds : (i : ℕ) → i < (fields_of s).recorded → get_or x.image ((fields_of t).kinds + i) 0 ≡ kind_back (kind_at s (fields_of s).kinds i)
   pub blocks : (i : ℕ) → i < (fields_of s).recorded → is_filemark (kind_at s (fields_of s).kinds i) ≡ false
       → block_at x.image (fields_of t).size (fields_of t).blocks i ≡ block_at s (fields_of s).size (fields_of s).blocks i
@@ -72,7 +71,7 @@ found s file = elements_in (reads (fields_of s).size file (fields_of s).capacity
 
 -- "leaves what it doesn't store", and "leaves the packet record as after a cartridge change"
 pub record Leaves (s : List ℕ) (st : State) (file : List ℕ) (x : Left State) : Type 0 where
-  pub header : header_of x.image ≡ Good (with_recorded (fields_of s) (length (found s file)))
+  pub header : header_of x.image ≡ Some (with_recorded (fields_of s) (length (found s file)))
   pub size : length x.image ≡ length s
   -- every byte but U's four, the kinds and the blocks of the elements stored
   pub outside : (m : ℕ) → Outside 8 4 m → Outside (fields_of s).kinds (length (found s file)) m

@@ -1,48 +1,38 @@
--- The ways of `turn_of`, and the loop of `judge`: what is left to read gives what the whole gives.
+-- An item's turn, and the loop of `judge`: what is left to read gives what the whole gives.
 -- Assumes nothing.
 use mathlib.Core.Path.{◌≡◌, refl, sym, ◌∙◌}
 use mathlib.Core.List.{List}
-use Prim.Native.Nat.{ℕ, suc, ◌+◌, ◌-◌, ◌<◌, ◌≤◌}
+use Prim.Native.Nat.{ℕ, zero, suc, ◌+◌, ◌-◌, ◌<◌, ◌≤◌}
 use native.Mathlib.Omega.{arith}
-use borrow.Author.Tests.{eq-eqb, ne_eqb}
 use lib.Dec.{eqb}
 use lib.ListN.{length}
+use Rattle.std.specs.Prelude.{Result, Ok, Err}
+use Rattle.numbers.specs.declared.refusals.Refusal.{Refusal}
+use Rattle.numbers.specs.declared.refusals.Refusal.TheVariants.{TooManyItems}
 use Rattle.numbers.proofs.Cases.{test}
 use Rattle.tap.specs.declared.items.Item.{Item}
 use Rattle.tap.specs.declared.items.Item.TheVariants.{Ends, Mark, Record, Cut}
-use Rattle.tap.specs.declared.items.TapeRecord.{TapeRecord}
 use Rattle.tap.specs.declared.judging.Found.{Found}
 use Rattle.tap.specs.declared.judging.Turn.{Turn}
-use Rattle.tap.specs.declared.judging.Turn.TheVariants.{Takes, Stops, Fails}
+use Rattle.tap.specs.declared.judging.Turn.TheVariants.{Takes, Stops}
 use Rattle.tap.specs.Items.{item_at}
-use Rattle.tap.specs.Files.{Element, TapeMark, Reading, Refused, Holds, record_in, met, reads, with_first, other_length, too_many}
-use Rattle.tap.specs.Judging.{turn_of, closed, found_from}
-
--- ---- the ways of `turn_of`
-
-module _ (size : ℕ) (x : Item) (r : TapeRecord) (is : x ≡ Record r) where
-  pub record_taken : r.length ≡ size → Takes r.next ≡ turn_of size x
-  unfolding turn_of
-  record_taken e = rw (is, eq-eqb r.length size e)
-
-  pub record_other : (r.length ≡ size → ⊥) → Fails other_length ≡ turn_of size x
-  unfolding turn_of
-  record_other n = rw (is, ne_eqb r.length size n)
+use Rattle.tap.specs.Files.{Element, TapeMark, Reading, Refused, Holds, record_in, met, reads, with_first}
+use Rattle.tap.specs.Judging.{turn_of, found_from}
 
 -- ---- an item's turn, and what is met
 
 -- after n elements: where the item is one more, what is found from there on
-abbrev goes_on : ℕ → Turn → (ℕ → Found) → Found
-goes_on n (Takes next) on = on next
-goes_on n (Stops used) on = closed (Stops used) n
-goes_on n (Fails number) on = closed (Fails number) n
+abbrev pub goes_on : ℕ → Result Turn Refusal → (ℕ → Result Found Refusal) → Result Found Refusal
+goes_on n (Ok (Takes next)) on = on next
+goes_on n (Ok (Stops used)) on = Ok (record { elements = n; used = used })
+goes_on n (Err reason) on = Err reason
 
 module _ (size : ℕ) (file : List ℕ) where
   found_first : (n : ℕ) (e : Element) (x : Reading) → found_from n (with_first e x) ≡ found_from (n + 1) x
-  found_first n e (Refused number) = refl
+  found_first n e (Refused reason) = refl
   found_first n e (Holds es used) = let y : n + suc (length es) ≡ n + 1 + length es = omega arith in rw y
 
-  found_full : (n : ℕ) (x : Item) → closed (turn_of size x) n ≡ found_from n (met size file (λ e next. Refused too_many) x)
+  found_full : (n : ℕ) (x : Item) → found_from n (met size file (λ e next. Refused TooManyItems) x) ≡ goes_on n (turn_of size x) (λ next. Err TooManyItems)
   unfolding turn_of met
   found_full n (Ends used) = let y : n + 0 ≡ n = omega arith in rw y
   found_full n Cut = refl
@@ -61,37 +51,40 @@ module _ (size : ℕ) (file : List ℕ) where
 
 -- ---- the loop of `judge`
 
--- n elements were met before place `at`, and what is left gives what the whole gives
-pub record Judging (size : ℕ) (file : List ℕ) (most at n : ℕ) : Type 0 where
-  pub within : n ≤ most
-  pub whole : found_from n (reads size file (most - n) at) ≡ found_from 0 (reads size file most 0)
+module _ (size : ℕ) (file : List ℕ) where
+  -- n elements were met before place `at`, and so many may be met with the one that stands there
+  abbrev pub left_from : (n at : ℕ) → ℕ → Result Found Refusal
+  left_from n at zero = Err TooManyItems
+  left_from n at (suc room) = found_from n (reads size file room at)
 
-pub judge_start : (size : ℕ) (file : List ℕ) (most : ℕ) → Judging size file most 0 0
-judge_start size file most = let y : most - 0 ≡ most = omega arith in record { within = omega arith; whole = rw y refl }
-
-module _ (size : ℕ) (file : List ℕ) (most at n : ℕ) (g : Judging size file most at n) (x : Item) (t : Turn)
-    (read : x ≡ item_at file at) (turned : t ≡ turn_of size x) where
-  judge_met : n < most → found_from 0 (reads size file most 0) ≡ goes_on n t (λ next. found_from (n + 1) (reads size file (most - (n + 1)) next))
+  left_met : (n at room : ℕ) → found_from n (reads size file room at) ≡ goes_on n (turn_of size (item_at file at)) (λ next. left_from (n + 1) next room)
   unfolding reads
-  judge_met l =
-      let y : most - n ≡ suc (most - (n + 1)) = omega arith in
-      sym g.whole ∙ rw (y, turned, read) (found_met size file n (most - (n + 1)) (item_at file at))
+  left_met n at zero = found_full size file n (item_at file at)
+  left_met n at (suc room) = found_met size file n room (item_at file at)
 
-  pub judge_next : (next : ℕ) → n < most → t ≡ Takes next → Judging size file most next (n + 1)
-  judge_next next l e = record { within = omega arith; whole = sym (rw e at (judge_met l)) }
+  module _ (most at n : ℕ) where
+    -- what is left gives what the whole gives
+    abbrev pub Judging : Type 0
+    Judging = left_from n at (most + 1 - n) ≡ found_from 0 (reads size file most 0)
 
-  pub judge_closed : n < most → ((next : ℕ) → t ≡ Takes next → ⊥) → closed t n ≡ found_from 0 (reads size file most 0)
-  judge_closed l o = other t o ∙ sym (judge_met l)
-    where
-      other : (t : Turn) → ((next : ℕ) → t ≡ Takes next → ⊥)
-          → closed t n ≡ goes_on n t (λ next. found_from (n + 1) (reads size file (most - (n + 1)) next))
-      other (Takes next) o = absurd (o next refl)
-      other (Stops used) o = refl
-      other (Fails number) o = refl
+    module _ (g : Judging) (l : n < most + 1) (x : Item) (t : Result Turn Refusal) (read : x ≡ item_at file at) (turned : t ≡ turn_of size x) where
+      met_here : found_from 0 (reads size file most 0) ≡ goes_on n t (λ next. left_from (n + 1) next (most + 1 - (n + 1)))
+      met_here =
+          let y : most + 1 - n ≡ suc (most - n) = omega arith in
+          let z : most + 1 - (n + 1) ≡ most - n = omega arith in
+          sym g ∙ rw (y, z, turned, read) (left_met n at (most - n))
 
-  pub judge_full : most ≤ n → closed t n ≡ found_from 0 (reads size file most 0)
-  unfolding reads
-  judge_full l =
-      let y : most - n ≡ 0 = omega (arith, g.within) in
-      let w = rw y at g.whole in
-      rw (turned, read) (found_full size file n (item_at file at)) ∙ w
+      pub judge_next : (next : ℕ) → t ≡ Ok (Takes next) → left_from (n + 1) next (most + 1 - (n + 1)) ≡ found_from 0 (reads size file most 0)
+      judge_next next e = sym (rw e at met_here)
+
+      pub judge_ends : (used : ℕ) → t ≡ Ok (Stops used) → Ok (record { elements = n; used = used }) ≡ found_from 0 (reads size file most 0)
+      judge_ends used e = sym (rw e at met_here)
+
+      pub judge_fails : (reason : Refusal) → t ≡ Err reason → Err reason ≡ found_from 0 (reads size file most 0)
+      judge_fails reason e = sym (rw e at met_here)
+
+      -- an element where as many were met as there is room for
+      pub judge_full : most ≤ n → (next : ℕ) → t ≡ Ok (Takes next) → Err TooManyItems ≡ found_from 0 (reads size file most 0)
+      judge_full f next e = let y : most + 1 - (n + 1) ≡ 0 = omega arith in rw y at (judge_next next e)
+
+pub ruleset judge_ways = (judge_next, judge_ends, judge_fails, judge_full)

@@ -1,4 +1,4 @@
--- Elements written: how long they are, and that the code's three stores are a record's bytes.
+-- Elements written: how long they are, and that three stores, a word, the block and the word again, are a record's bytes.
 -- Assumes nothing.
 use mathlib.Core.Path.{◌≡◌, refl, ap, ◌∙◌}
 use mathlib.Core.Bool.{Bool}
@@ -7,10 +7,11 @@ use Prim.Native.Nat.{ℕ, ◌+◌, ◌-◌, ◌%◌, ◌≤◌}
 use native.Mathlib.Omega.{arith}
 use lib.ListN.{length, length-append, length-replicate}
 use borrow.Rule.Slice.PartMut.{mid_of, put_mid}
+use Rattle.std.proofs.lemmas.Grind.{common_steps}
 use Rattle.numbers.specs.Flags.{weight_of}
-use Rattle.numbers.specs.Over.{over, part}
+use Rattle.numbers.specs.Over.{over}
 use Rattle.numbers.specs.Words.{word_bytes}
-use Rattle.numbers.proofs.OverLaws.{part_length, over_more, copied_over}
+use Rattle.numbers.proofs.OverLaws.{over_more}
 use Rattle.numbers.proofs.WordLaws.{word_length}
 use Rattle.tap.specs.Items.{tape_mark, end_mark, high_bit, padded}
 use Rattle.tap.specs.Files.{Element, TapeMark, Block, record_bytes, bytes_of, file_of}
@@ -60,18 +61,21 @@ three_laid s a b c at l =
     ∙ over_more s (a ++ b) c at (omega (arith, n))
     ∙ ap (over s at) (append_assoc a b c)
 
-pub record_put : (file src : List ℕ) (at from size w : ℕ) (unreadable : Bool) (file' ys file'' : List ℕ) → size % 2 ≡ 0 → at + size + 8 ≤ length file
-    → from + size ≤ length src → w ≡ size + weight_of unreadable high_bit → file' ≡ over file at (word_bytes w)
-    → ys ≡ over (mid_of (at + 4) (length file' - (at + 4)) file') 0 (mid_of from (from + size - from) src)
-    → file'' ≡ over (put_mid (at + 4) (length file' - (at + 4)) file' ys) (at + 4 + size) (word_bytes w)
-    → file'' ≡ over file at (bytes_of (Block unreadable (part src from size)))
+-- a block laid over the rest of a file that was lent
+block_laid : (at : ℕ) (file block ys : List ℕ) → ys ≡ over (mid_of at (length file - at) file) 0 block
+    → put_mid at (length file - at) file ys ≡ over file at block
+block_laid at file block ys e = grind (arith, common_steps)
+
+pub record_put : (file block : List ℕ) (at w : ℕ) (unreadable : Bool) (file' ys file'' : List ℕ) → length block % 2 ≡ 0
+    → at + length block + 8 ≤ length file → w ≡ length block + weight_of unreadable high_bit → file' ≡ over file at (word_bytes w)
+    → ys ≡ over (mid_of (at + 4) (length file' - (at + 4)) file') 0 block
+    → file'' ≡ over (put_mid (at + 4) (length file' - (at + 4)) file' ys) (at + 4 + length block) (word_bytes w)
+    → file'' ≡ over file at (bytes_of (Block unreadable block))
 unfolding bytes_of
-record_put file src at from size w unreadable file' ys file'' even room whole q e f g =
-    let bytes = part src from size in
-    let l = part_length src from size whole in
+record_put file block at w unreadable file' ys file'' even room q e f g =
     let k = word_length w in
-    let d = even_record (length bytes + weight_of unreadable high_bit) bytes (rw l even) in
+    let d = even_record (length block + weight_of unreadable high_bit) block even in
     let n : at + length (word_bytes w) ≡ at + 4 = omega arith in
-    let m : at + length (word_bytes w) + length bytes ≡ at + 4 + size = omega arith in
-    let z = three_laid file (word_bytes w) bytes (word_bytes w) at (omega arith) in
-    rw (d, l, ← q, g, copied_over (at + 4) from size file' src ys f, e) (rw (m, n) at z)
+    let m : at + length (word_bytes w) + length block ≡ at + 4 + length block = omega arith in
+    let z = three_laid file (word_bytes w) block (word_bytes w) at (omega arith) in
+    rw (d, ← q, g, block_laid (at + 4) file' block ys f, e) (rw (m, n) at z)

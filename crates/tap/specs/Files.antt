@@ -4,7 +4,10 @@ use Rattle.std.specs.Prelude.{ℕ, zero, suc, ◌+◌, ◌%◌, Bool, List, [], 
 use Rattle.numbers.specs.Choice.{◌≡ᵇ◌}
 use Rattle.numbers.specs.Flags.{weight_of}
 use Rattle.numbers.specs.Over.{part}
+use Rattle.numbers.specs.Refusals.{number_of}
 use Rattle.numbers.specs.Words.{word_bytes}
+use Rattle.numbers.specs.declared.refusals.Refusal.{Refusal}
+use Rattle.numbers.specs.declared.refusals.Refusal.TheVariants.{CutLengths, OtherLength, TooManyItems}
 use Rattle.tap.specs.declared.items.Item.{Item}
 use Rattle.tap.specs.declared.items.Item.TheVariants.{Ends, Mark, Record, Cut}
 use Rattle.tap.specs.declared.items.TapeRecord.{TapeRecord}
@@ -44,21 +47,21 @@ file_of (e ∷ es) = bytes_of e ++ file_of es
 
 -- "11, lengths disagree or are cut; 12, record not B bytes; 13, more than C elements"
 abbrev pub cut_lengths : ℕ
-cut_lengths = 11
+cut_lengths = number_of CutLengths
 
 abbrev pub other_length : ℕ
-other_length = 12
+other_length = number_of OtherLength
 
 abbrev pub too_many : ℕ
-too_many = 13
+too_many = number_of TooManyItems
 
--- what a file is found to hold: its elements, and how many of its bytes they take with the end mark; or the number that refuses it
+-- what a file is found to hold: its elements, and how many of its bytes they take with the end mark; or why it is refused
 pub data Reading : Type 0 where
-  Refused : ℕ → Reading
+  Refused : Refusal → Reading
   Holds : List Element → ℕ → Reading
 
 abbrev pub with_first : Element → Reading → Reading
-with_first e (Refused number) = Refused number
+with_first e (Refused reason) = Refused reason
 with_first e (Holds es used) = Holds (e ∷ es) used
 
 abbrev pub record_in : List ℕ → TapeRecord → Element
@@ -69,16 +72,16 @@ module _ (size : ℕ) (file : List ℕ) where
   -- one item, "11 before 12 before 13": a mark or a record of B bytes is taken, where there is room, and the reading goes on after it
   unfoldable pub met : (Element → ℕ → Reading) → Item → Reading
   met take (Ends used) = Holds [] used
-  met take Cut = Refused cut_lengths
+  met take Cut = Refused CutLengths
   met take (Mark next) = take TapeMark next
-  met take (Record r) = if r.length ≡ᵇ size then take (record_in file r) r.next else Refused other_length
+  met take (Record r) = if r.length ≡ᵇ size then take (record_in file r) r.next else Refused OtherLength
 
   -- "the first met in file order": the items from place `at` on, with room for so many elements
   unfoldable pub reads : ℕ → ℕ → Reading
-  reads zero at = met (λ e next. Refused too_many) (item_at file at)
+  reads zero at = met (λ e next. Refused TooManyItems) (item_at file at)
   reads (suc room) at = met (λ e next. with_first e (reads room next)) (item_at file at)
 
 -- the elements that a file is found to hold; none of one that is refused
 abbrev pub elements_in : Reading → List Element
-elements_in (Refused number) = []
+elements_in (Refused reason) = []
 elements_in (Holds es used) = es

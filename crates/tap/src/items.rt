@@ -27,6 +27,7 @@ pub const END_MARK: u32 = 0xffffffff;
 pub const HIGH_BIT: u32 = 0x80000000;
 
 // What is left after the first word is compared, and not the place of the second: that could pass 64 bits.
+#[tactic(auto, using(crate::proofs::ItemLaws::record_ways))]
 fn record_at(file: &[u8], at: usize, w: u32) -> Item
     requires { at + 4 ≤ length file.now }
     ensures { result ≡ record_at file.now at w }
@@ -47,6 +48,7 @@ fn record_at(file: &[u8], at: usize, w: u32) -> Item
     })
 }
 
+#[tactic(auto, using(crate::proofs::ItemLaws::item_ways))]
 pub fn item_at(file: &[u8], at: usize) -> Item
     ensures { result ≡ item_at file.now at }
 {
@@ -57,12 +59,9 @@ pub fn item_at(file: &[u8], at: usize) -> Item
     if n - at < 4 {
         return Item::Cut;
     }
-    let w = word_at(file, at);
-    if w == TAPE_MARK {
-        return Item::Mark(at + 4);
+    match word_at(file, at) {
+        TAPE_MARK => Item::Mark(at + 4),
+        END_MARK => Item::Ends(at + 4),
+        w => record_at(file, at, w),
     }
-    if w == END_MARK {
-        return Item::Ends(at + 4);
-    }
-    record_at(file, at, w)
 }

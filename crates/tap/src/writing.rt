@@ -1,7 +1,7 @@
 // A record, and the words that are no record's length. No pad byte is written: the card's blocks are of 512 or 1024 bytes.
-ghost use Rattle.std.specs.Prelude.{◌≡◌, ◌+◌, ◌%◌, ◌≤◌, length};
+ghost use Rattle.std.specs.Prelude.{◌≡◌, ◌+◌, ◌%◌, ◌<◌, ◌≤◌, length};
 ghost use Rattle.numbers.specs.Flags.{weight_of};
-ghost use Rattle.numbers.specs.Over.{over, part};
+ghost use Rattle.numbers.specs.Over.{over};
 ghost use Rattle.tap.specs.Items.{high_bit};
 ghost use Rattle.tap.specs.Files.{Block, bytes_of};
 
@@ -9,36 +9,30 @@ use crate::items::HIGH_BIT;
 use numbers::copying::copy_block;
 use numbers::words::put_word;
 
-fn length_word(size: u16, unreadable: bool) -> u32
-    ensures { result ≡ size + weight_of unreadable high_bit }
+fn length_word(length: u32, unreadable: bool) -> u32
+    requires { length < high_bit }
+    ensures { result ≡ length + weight_of unreadable high_bit }
 {
     if unreadable {
-        return size as u32 + HIGH_BIT;
+        return length + HIGH_BIT;
     }
-    size as u32
+    length
 }
 
-// The block that stands in src from place `from` on becomes a record from place `at` of the file on; the answer is the place after it.
-pub fn put_record(
-    file: &mut [u8],
-    at: usize,
-    src: &[u8],
-    from: usize,
-    size: u16,
-    unreadable: bool,
-) -> usize
-    requires size_value { size % 2 ≡ 0 }
-    requires size_in_bounds { at + size + 8 ≤ length file.old }
-    requires size_in_bounds_2 { from + size ≤ length src.now }
-    ensures value { result ≡ at + size + 8 }
-    ensures file_after { file.new ≡ over file.old at (bytes_of (Block unreadable (part src.now from size))) }
+// The block becomes a record from place `at` of the file on; the answer is the place after it.
+#[tactic(auto, using(crate::proofs::WriteLaws::record_put))]
+pub fn put_record(file: &mut [u8], at: usize, block: &[u8], unreadable: bool) -> usize
+    requires even_length { length block.now % 2 ≡ 0 }
+    requires length_bound { length block.now < high_bit }
+    requires record_in_bounds { at + length block.now + 8 ≤ length file.old }
+    ensures value { result ≡ at + length block.now + 8 }
+    ensures file_after { file.new ≡ over file.old at (bytes_of (Block unreadable block.now)) }
 {
-    let word = length_word(size, unreadable);
+    let word = length_word(block.len() as u32, unreadable);
     let bytes = at + 4;
-    let second = bytes + size as usize;
-    let to = from + size as usize;
+    let second = bytes + block.len();
     put_word(file, at, word);
-    copy_block(&mut file[bytes..], &src[from..to]);
+    copy_block(&mut file[bytes..], block);
     put_word(file, second, word);
     second + 4
 }

@@ -10,8 +10,7 @@ pub element_length-n-requires : goal.element_length-n-requires
 element_length-n-requires c = let g = sound _ _ c.requires in omega arith
 
 pub loop-i-preserved : goal.loop-i-preserved
-loop-i-preserved c =
-    measure_next _ _ c.requires _ _ c.loop-i.invariant _ _ c.loop-i-test.true c.kind_at.ensures c.element_length-n.ensures.0 c.element_length-n.ensures.1
+loop-i-preserved c = search measure_next
 
 pub returns : goal.returns
-returns c = measure_done _ _ c.requires _ _ c.loop-i.invariant c.loop-i-test.false
+returns c = measure_done _ _ c.requires _ _ c.loop-i.invariant (omega (arith, c.loop-i.auto, c.loop-i-test.false))

@@ -1,10 +1,6 @@
 -- `importing::store_elements` meets its contract. The invariant: the elements that are left, stored from here on, give the whole.
-use Prim.Native.Nat.{◌-◌}
 use Rattle.exchange.proofs.ImportLaws.{Storing}
 use Rattle.exchange.proofs.importing.store_elements.Given as goal
 
 abbrev pub invariant-loop-i : goal.invariant-loop-i
 invariant-loop-i l = Storing l.h l.file l.initial.image l.image l.n l.i l.at
-
-abbrev pub decreases-loop-i : goal.decreases-loop-i
-decreases-loop-i l = l.n - l.i

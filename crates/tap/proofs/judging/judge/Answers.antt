@@ -1,14 +1,9 @@
-use mathlib.Core.Path.{◌∙◌}
-use Rattle.tap.proofs.JudgeLaws.{judge_next, judge_closed, judge_full}
+use native.Mathlib.Omega.{arith}
+use Rattle.std.proofs.lemmas.Result.{err_from_is_err_and}
+use Rattle.tap.proofs.JudgeLaws.{judge_fails}
 use Rattle.tap.proofs.judging.judge.Goals as goal
 
-pub returns-in_default : goal.returns-in_default
-returns-in_default c =
-    c.close.ensures ∙ judge_closed _ _ _ _ _ c.loop-n.invariant _ _ c.read.ensures c.turn_of-turn.ensures c.loop-n-test.true c.in_default.not-Takes
-
-pub loop-n-preserved : goal.loop-n-preserved
-loop-n-preserved c =
-    judge_next _ _ _ _ _ c.loop-n.invariant _ _ c.read.ensures c.turn_of-turn.ensures _ c.loop-n-test.true c.in-Takes.is
-
-pub returns : goal.returns
-returns c = c.close-2.ensures ∙ judge_full _ _ _ _ _ c.loop-n.invariant _ _ c.read-2.ensures c.turn_of.ensures c.loop-n-test.false
+pub returns-in_err-next : goal.returns-in_err-next
+returns-in_err-next c =
+    let p = err_from_is_err_and c.from_residual.result c.from_residual.ensures.1 in
+    rw (p.1, p.2) (judge_fails _ _ _ _ _ c.loop-elements.invariant (omega arith) _ _ c.read.ensures c.turn_of.ensures _ c.in_err-next.was)
