@@ -4,10 +4,10 @@ use Prim.Native.Nat.{ℕ, ◌-◌, ◌≤◌}
 use native.Mathlib.Omega.{arith}
 use mathlib.Core.Bool.{Bool, true, false}
 use mathlib.Core.Path.{◌≡◌, refl}
+use Rattle.std.specs.Prelude.{Some}
 use borrow.Author.Tests.{ne_eqb, leb-true}
 use Rattle.pulse_codes.specs.Arguments.{needed, in_range, nibble_of, highest_nibble, highest_rate}
 use Rattle.pulse_codes.specs.Codes.{seek_track, select_rate}
-use Rattle.pulse_codes.specs.declared.arguments.Nibble.TheVariants.{Value}
 
 pub needed_none : (code : ℕ) → 36 ≤ code → 0 ≡ needed code
 unfolding needed
@@ -21,7 +21,7 @@ needed_none code h =
       ne_eqb code 35 (λ e. omega arith),
     )
 
-pub value_in_range : (code n value : ℕ) → nibble_of code n ≡ Value value → in_range code value ≡ true
+pub value_in_range : (code n value : ℕ) → nibble_of code n ≡ Some value → in_range code value ≡ true
 unfolding nibble_of
 value_in_range code n value e = by (in_range code (n - 2)) refl
   where
