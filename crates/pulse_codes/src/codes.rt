@@ -37,11 +37,14 @@ const SKIP_EXTENDED_FORWARD: u16 = 35;
 fn is_supported(n: u16) -> bool
     ensures { result ≡ supported n }
 {
-    ((SOFT_RESET <= n) & (n <= PAUSE))
-        | ((REPORT_STATUS <= n) & (n <= SEEK_LOAD_POINT))
-        | (n == STOP_TAPE)
-        | ((SKIP_REVERSE <= n) & (n <= SELECT_RATE))
-        | ((REPORT_VENDOR <= n) & (n <= SKIP_EXTENDED_FORWARD))
+    matches!(
+        n,
+        SOFT_RESET..=PAUSE
+            | REPORT_STATUS..=SEEK_LOAD_POINT
+            | STOP_TAPE
+            | SKIP_REVERSE..=SELECT_RATE
+            | REPORT_VENDOR..=SKIP_EXTENDED_FORWARD
+    )
 }
 
 pub fn is_unsupported(n: u16) -> bool
@@ -59,34 +62,34 @@ pub fn is_ignored(n: u16) -> bool
 pub fn is_report(n: u16) -> bool
     ensures { result ≡ is_report n }
 {
-    ((REPORT_STATUS <= n) & (n <= REPORT_ROM)) | (n == REPORT_VENDOR) | (n == REPORT_TAPE)
+    matches!(n, REPORT_STATUS..=REPORT_ROM | REPORT_VENDOR | REPORT_TAPE)
 }
 
 pub(crate) fn is_skip(n: u16) -> bool
     ensures { result ≡ is_skip n }
 {
-    (n == SKIP_REVERSE)
-        | (n == SKIP_FORWARD)
-        | (n == SKIP_EXTENDED_REVERSE)
-        | (n == SKIP_EXTENDED_FORWARD)
+    matches!(
+        n,
+        SKIP_REVERSE | SKIP_FORWARD | SKIP_EXTENDED_REVERSE | SKIP_EXTENDED_FORWARD
+    )
 }
 
 pub fn stops_motion(n: u16) -> bool
     ensures { result ≡ stops_motion n }
 {
-    (n == PAUSE) | (n == STOP_TAPE) | is_skip(n)
+    matches!(n, PAUSE | STOP_TAPE) | is_skip(n)
 }
 
 pub fn needs_cartridge(n: u16) -> bool
     ensures { result ≡ needs_cartridge n }
 {
-    ((LOGICAL_FORWARD <= n) & (n <= SEEK_LOAD_POINT)) | is_skip(n)
+    matches!(n, LOGICAL_FORWARD..=SEEK_LOAD_POINT) | is_skip(n)
 }
 
 pub fn needs_reference(n: u16) -> bool
     ensures { result ≡ needs_reference n }
 {
-    (n == LOGICAL_FORWARD) | (n == SEEK_TRACK) | is_skip(n)
+    matches!(n, LOGICAL_FORWARD | SEEK_TRACK) | is_skip(n)
 }
 
 // A code that the drive hears fits a byte, as the record keeps it.
