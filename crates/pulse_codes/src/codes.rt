@@ -6,33 +6,41 @@ pub const SOFT_RESET: u16 = 1;
 
 pub const REPORT_NEXT_BIT: u16 = 2;
 
-const PAUSE: u16 = 3;
+pub const PAUSE: u16 = 3;
 
-const REPORT_STATUS: u16 = 6;
+pub const REPORT_STATUS: u16 = 6;
 
-const REPORT_ROM: u16 = 9;
+pub const REPORT_ERROR: u16 = 7;
 
-const LOGICAL_FORWARD: u16 = 10;
+pub const REPORT_CONFIGURATION: u16 = 8;
+
+pub const REPORT_ROM: u16 = 9;
+
+pub const LOGICAL_FORWARD: u16 = 10;
+
+pub const PHYSICAL_REVERSE: u16 = 11;
+
+pub const PHYSICAL_FORWARD: u16 = 12;
 
 pub const SEEK_TRACK: u16 = 13;
 
-const SEEK_LOAD_POINT: u16 = 14;
+pub const SEEK_LOAD_POINT: u16 = 14;
 
-const STOP_TAPE: u16 = 18;
+pub const STOP_TAPE: u16 = 18;
 
-const SKIP_REVERSE: u16 = 25;
+pub const SKIP_REVERSE: u16 = 25;
 
-const SKIP_FORWARD: u16 = 26;
+pub const SKIP_FORWARD: u16 = 26;
 
-pub(crate) const SELECT_RATE: u16 = 27;
+pub const SELECT_RATE: u16 = 27;
 
 pub const REPORT_VENDOR: u16 = 32;
 
-const REPORT_TAPE: u16 = 33;
+pub const REPORT_TAPE: u16 = 33;
 
-const SKIP_EXTENDED_REVERSE: u16 = 34;
+pub const SKIP_EXTENDED_REVERSE: u16 = 34;
 
-const SKIP_EXTENDED_FORWARD: u16 = 35;
+pub const SKIP_EXTENDED_FORWARD: u16 = 35;
 
 fn is_supported(n: u16) -> bool
     ensures { result ≡ supported n }
