@@ -1,7 +1,7 @@
 // Step 2 of a train: an argument.
 ghost use Rattle.std.specs.Prelude.{◌≡◌, true, ◌≤◌};
 ghost use Rattle.pulse_codes.specs.Arguments.{in_range, highest_nibble};
-ghost use Rattle.pulse.specs.Arguments.{track_sought, skipped, nibble_taken, argument_taken, step_argument};
+ghost use Rattle.pulse.specs.Arguments.{track_sought, skipped, nibble_taken, argument_taken, argument_read, step_argument};
 
 use crate::drive::Drive;
 use pulse_codes::{Waiting, arguments, codes, errors};
@@ -61,16 +61,23 @@ impl Drive {
         }
     }
 
-    #[tactic(auto, unfolding(crate::specs::Arguments::step_argument, crate::specs::Arguments::argument_read), using(pulse_codes::proofs::ArgumentLaws::value_in_range))]
-    pub(crate) fn step_argument(self, n: u16) -> Self
-        ensures { result ≡ step_argument self n }
+    #[tactic(auto, unfolding(crate::specs::Arguments::argument_read), using(pulse_codes::proofs::ArgumentLaws::value_in_range))]
+    fn read_argument(self, w: Waiting, n: u16) -> Self
+        ensures { result ≡ argument_read self w.code w.held w.value n }
     {
-        let Some(w) = self.waiting else {
-            return self;
-        };
         let Some(value) = arguments::read_nibble(w.code, n) else {
             return self.with_waiting(None);
         };
         self.take_argument(w, value)
+    }
+
+    #[tactic(auto, unfolding(crate::specs::Arguments::step_argument))]
+    pub(crate) fn step_argument(self, n: u16) -> Self
+        ensures { result ≡ step_argument self n }
+    {
+        match self.waiting {
+            Some(w) => self.read_argument(w, n),
+            None => self,
+        }
     }
 }

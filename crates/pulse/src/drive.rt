@@ -6,7 +6,7 @@ ghost use Rattle.pulse.specs.Drives.{is_ready, with_head, with_marks, with_fault
 use pulse_codes::Waiting;
 use pulse_parts::{Cartridge, Fault, Head, Marks, Report};
 
-#[derive(Clone, Copy)]
+#[derive(Clone, Copy, PartialEq, Eq)]
 pub struct Drive {
     pub cart: Cartridge,
     pub head: Head,

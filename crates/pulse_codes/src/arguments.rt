@@ -10,7 +10,7 @@ const HIGHEST_NIBBLE: u16 = 15;
 pub const HIGHEST_RATE: u16 = 3;
 
 // The arguments that a code waits for: how many are held, and their value, the first nibble lowest.
-#[derive(Clone, Copy)]
+#[derive(Clone, Copy, PartialEq, Eq)]
 pub struct Waiting {
     pub code: u8,
     pub held: u8,
