@@ -33,13 +33,13 @@ impl Drive {
         requires { nibble ≤ highest_nibble }
         ensures { result ≡ nibble_taken self w.code w.held w.value nibble }
     {
-        let value = arguments::join_nibble(w.value, w.held, nibble);
+        let value = w.join(nibble);
         let more = w.held as u16 + 1 < arguments::needed_arguments(w.code) as u16;
         if more {
             return self.with_waiting(Some(Waiting {
-                code: w.code,
                 held: w.held + 1,
                 value,
+                ..w
             }));
         }
         self.with_waiting(None).skip(w.code, value)

@@ -7,7 +7,7 @@ use crate::drive::Drive;
 use pulse_codes::{arguments, errors};
 use pulse_parts::{Cartridge, Fault, Head, Marks, Report};
 
-pub(crate) fn in_ranges(c: Cartridge) -> bool
+fn in_ranges(c: Cartridge) -> bool
     ensures { result ≡ in_ranges c }
 {
     (1..=Drive::MAX_SEGMENTS).contains(&c.segments)

@@ -54,19 +54,19 @@ pub fn read_nibble(code: u8, n: u16) -> Option<u16>
     None
 }
 
-// One nibble more above the nibbles held.
-pub fn join_nibble(value: u16, held: u8, nibble: u16) -> u16
-    requires { nibble ≤ highest_nibble }
-    ensures { result ≡ joined value held nibble }
-{
-    match held {
-        0 => nibble,
-        1 => value % 16 + nibble * 16,
-        _ => value % 256 + nibble * 256,
-    }
-}
-
 impl Waiting {
+    // One nibble more above the nibbles held.
+    pub fn join(self, nibble: u16) -> u16
+        requires { nibble ≤ highest_nibble }
+        ensures { result ≡ joined self.value self.held nibble }
+    {
+        match self.held {
+            0 => nibble,
+            1 => self.value % 16 + nibble * 16,
+            _ => self.value % 256 + nibble * 256,
+        }
+    }
+
     fn fits(self, free: bool, referenced: bool) -> bool
         ensures { result ≡ waiting_fits (Some self) free referenced }
     {
