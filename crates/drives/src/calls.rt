@@ -22,6 +22,12 @@ impl Drive {
         Drive { state }
     }
 
+    // A power-on, which has no answer.
+    pub fn restart(&mut self, rt: &impl Print, vendor: u16, rom: u8) -> io::Result<()> {
+        *self = Drive::power_on(vendor, rom);
+        print!(rt; " power-on vendor {vendor} ROM {rom}")
+    }
+
     // What the call answers: number and level are printed, and of a refused call whether it left the record as it was.
     fn answered<F: FnOnce(&mut [u8; 32], &mut [u8; 8])>(
         &mut self,
@@ -35,13 +41,13 @@ impl Drive {
         call(&mut self.state, &mut answer);
         let (number, level) = (answer[0], answer[1]);
         print!(rt; ": number {number} level {level}")?;
-        if number != 0 {
-            let kept = before == self.state;
-            rt.print(if kept {
-                " record unchanged"
-            } else {
-                " CHANGED"
-            })?;
+        if number == 0 {
+            return Ok(answer);
+        }
+        if before == self.state {
+            rt.print(" record unchanged")?;
+        } else {
+            rt.print(" CHANGED")?;
         }
         Ok(answer)
     }
@@ -91,9 +97,8 @@ impl Drive {
         Ok(())
     }
 
-    pub fn wait(&mut self, rt: &impl Print, limit: u16) -> io::Result<()> {
+    pub fn wait(&mut self, rt: &impl Print, limit: u32) -> io::Result<()> {
         print!(rt; " wait {limit}")?;
-        let limit = u32::from(limit);
         let answer = self.answered(
             rt,
             |state, answer| tapecard_pulse_wait(state, limit, answer),

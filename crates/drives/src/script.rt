@@ -15,11 +15,6 @@ use lines::show;
 use numbers::counts::pair;
 use std::io;
 
-fn power_on(rt: &impl Print, drive: &mut Drive, vendor: u16, rom: u8) -> io::Result<()> {
-    *drive = Drive::power_on(vendor, rom);
-    print!(rt; " power-on vendor {vendor} ROM {rom}")
-}
-
 // What the record gets from a place on has to lie within it.
 fn store(rt: &impl Print, drive: &mut Drive, place: u16, values: &[u8]) -> io::Result<()> {
     let from = place as usize;
@@ -46,15 +41,15 @@ fn call(rt: &impl Print, drive: &mut Drive, line: &[u8]) -> io::Result<()> {
         return no_line(rt, line);
     }
     match (*letter, bytes) {
-        (b'o', [vv, v, rom]) => power_on(rt, drive, pair(*vv, *v), *rom),
-        (b't', [nn, n]) => drive.train(rt, pair(*nn, *n), 0),
-        (b't', [nn, n, twos]) => drive.train(rt, pair(*nn, *n), *twos),
+        (b'o', [high, low, rom]) => drive.restart(rt, pair(*high, *low), *rom),
+        (b't', [high, low]) => drive.train(rt, pair(*high, *low), 0),
+        (b't', [high, low, twos]) => drive.train(rt, pair(*high, *low), *twos),
         (b'k', []) => drive.tick(rt),
         (b'i', [a, b, c, d, e, f, g, h]) => drive.insert(rt, [*a, *b, *c, *d, *e, *f, *g, *h]),
         (b'r', []) => drive.remove(rt),
-        (b'w', [ll, l]) => drive.wait(rt, pair(*ll, *l)),
-        (b's', [aa, a, values @ ..]) if !values.is_empty() => {
-            store(rt, drive, pair(*aa, *a), values)
+        (b'w', [high, low]) => drive.wait(rt, u32::from(pair(*high, *low))),
+        (b's', [high, low, values @ ..]) if !values.is_empty() => {
+            store(rt, drive, pair(*high, *low), values)
         }
         (b'p', []) => drive.show_parts(rt),
         (b'x', []) => drive.show_record(rt),

@@ -7,6 +7,7 @@ use std::io::Read;
 const MOST: usize = 65536;
 
 // Reads until buf is full or the input has ended, and tells how many bytes it put at the start of buf; an input that fails has ended.
+// A loop over read: read_exact does not tell how far it came, and read_to_end asks for memory.
 fn read_full(input: &mut impl Read, buf: &mut [u8]) -> usize
     ensures { result ≤ length buf.new }
 {

@@ -30,18 +30,15 @@ impl Bytes {
         }
     }
 
-    fn has_room(&self) -> bool
-        ensures { result ≡ nat_lt (length self.now) 40 }
-    {
-        self.count < MOST
-    }
-
+    // What comes after the fortieth is left out.
     fn push(&mut self, byte: u8)
-        requires { length self.old < 40 }
-        ensures { self.new ≡ self.old ++ byte ∷ [] }
+        ensures room { length self.old < 40 → self.new ≡ self.old ++ byte ∷ [] }
+        ensures full { 40 ≤ length self.old → self.new ≡ self.old }
     {
-        self.values[self.count] = byte;
-        self.count += 1;
+        if self.count < MOST {
+            self.values[self.count] = byte;
+            self.count += 1;
+        }
     }
 
     pub fn as_slice(&self) -> &[u8]
@@ -74,9 +71,7 @@ fn byte_of(spelled: &[u8]) -> Option<u8> {
 pub fn bytes_of(spelled: &[u8]) -> Bytes {
     let mut bytes = Bytes::new();
     for byte in spelled.chunks(3).map_while(byte_of) {
-        if bytes.has_room() {
-            bytes.push(byte);
-        }
+        bytes.push(byte);
     }
     bytes
 }
