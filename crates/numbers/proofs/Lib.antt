@@ -3,6 +3,7 @@ pub mod Cases
 pub mod CountLaws
 pub mod MemberLaws
 pub mod OverLaws
+pub mod RefusalLaws
 pub mod RuleLaws
 pub mod SameLaws
 pub mod TableRule

@@ -1,42 +1,42 @@
--- The ways out of the calls.
+-- What an engine leaves, as the bytes that a call leaves of it.
 -- Assumes nothing.
-use mathlib.Core.Path.{◌≡◌, ap}
-use mathlib.Core.Bool.{Bool}
-use mathlib.Core.List.{List}
+use mathlib.Core.Path.{◌≡◌, refl, sym, ap, ◌∙◌}
+use mathlib.Core.List.{List, []}
 use Prim.Native.Nat.{ℕ}
-use borrow.Author.Tests.{eq-eqb, ne_eqb}
-use Rattle.packet_state.specs.declared.state.Answer.{Answer}
+use Rattle.std.specs.Prelude.{Result, Ok, Err}
+use Rattle.numbers.specs.declared.refusals.Refusal.{Refusal}
+use Rattle.numbers.proofs.RefusalLaws.{not_zero}
 use Rattle.packet_state.specs.declared.state.Outcome.{Outcome}
 use Rattle.packet_state.specs.declared.state.State.{State}
+use Rattle.packet_state.specs.declared.state.Told.{Told}
+use Rattle.packet_state.specs.Answers.{answer_of}
 use Rattle.packet_state.specs.States.{fresh_state, changed_state}
-use Rattle.packet_parts.specs.Answers.{done}
+use Rattle.packet_parts.specs.Answers.{left}
 use Rattle.stream.specs.Packet.{packet_step}
 use Rattle.index.specs.Keeping.{made, makes, indexed, indexed_step}
 use Rattle.exchange.specs.Exporting.{exported, exports}
 use Rattle.exchange.specs.Importing.{imports}
 use Rattle.floppy_parts.specs.declared.tape.Floppy.{Floppy}
-use Rattle.floppy_parts.specs.declared.tape.FloppyOutcome.{FloppyOutcome}
-use Rattle.floppy_parts.specs.Tape.{leaves}
 use Rattle.floppy.specs.Packet.{fresh_floppy, changed_floppy, floppy_step}
 use Rattle.floppy_record.specs.FloppyRecord.{decode_floppy, encode_floppy}
-use Rattle.pulse.specs.declared.calls.Step.{Step}
-use Rattle.pulse.specs.declared.calls.Waited.{Waited}
+use Rattle.pulse.specs.declared.calls.Waited.{Waited as Passed}
 use Rattle.pulse.specs.declared.drive.Drive.{Drive}
 use Rattle.pulse.specs.Drives.{power_on}
-use Rattle.pulse.specs.Calls.{train_call, tick_call, insert_call, remove_call, wait_call}
+use Rattle.pulse.specs.Calls.{told, told_wait, train_call, tick_call, insert_call, remove_call, wait_call}
 use Rattle.pulse.specs.Trains.{sent, trains_call}
 use Rattle.pulse_parts.specs.declared.cartridge.Cartridge.{Cartridge}
 use Rattle.packet_record.specs.PacketRecord.{decode_state, encode_state, encode_answer}
-use Rattle.tapecard.specs.PacketCalls.{PacketCard, OutcomeLeft, packet_card, packet_fresh, packet_change, packet_left, packet_call}
+use Rattle.tapecard.specs.Leaving.{record_left, answer_left, drive_left, waited_answer, at_once}
+use Rattle.tapecard.specs.PacketCalls.{packet_card, packet_fresh, packet_change, packet_left, packet_call}
 use Rattle.tapecard.specs.IndexCalls.{index_told, index_card, made_left, indexed_left, index_make_call, index_packet_call}
 use Rattle.tapecard.specs.ExchangeCalls.{export_told, export_left, export_call, import_call}
-use Rattle.tapecard.specs.FloppyCalls.{FloppyTold, floppy_card, floppy_told, floppy_left, floppy_packet_left}
+use Rattle.tapecard.specs.FloppyCalls.{floppy_card, floppy_told, floppy_left, floppy_packet_left}
 use Rattle.tapecard.specs.FloppyCalls.{floppy_fresh_call, floppy_change_call, floppy_packet_call}
-use Rattle.pulse_record.specs.PulseRecord.{decode_drive, encode_drive, encode_told, described_cartridge, described_place}
-use Rattle.tapecard.specs.PulseCalls.{PulseCard, list_card, pulse_card, pulse_left}
+use Rattle.pulse_record.specs.PulseRecord.{decode_drive, encode_drive, described_cartridge, described_place}
+use Rattle.tapecard.specs.PulseCalls.{PulseCard, list_card, pulse_card, pulse_left, step_left, waited_left}
 use Rattle.tapecard.specs.PulseCalls.{pulse_power_on, pulse_train, pulse_trains, pulse_tick, pulse_insert, pulse_remove, pulse_wait}
 
--- ---- the packet drive
+-- ---- the packet drive, with an index and without, and an import
 
 pub fresh_left : (new : List ℕ) (st : State) → st ≡ fresh_state → new ≡ encode_state st → new ≡ packet_fresh
 unfolding packet_fresh
@@ -47,66 +47,69 @@ pub change_left : (s new : List ℕ) (old st : State) → old ≡ decode_state s
 unfolding packet_change
 change_left s new old st q p e = rw (e, p, q)
 
-module _ (s answer : List ℕ) (o : Outcome) (w : answer ≡ encode_answer o.answer) where
-  pub packet_kept : (o.answer.number ≡ 0 → ⊥) → OutcomeLeft s o s answer
-  unfolding packet_left
-  packet_kept n image buf = rw (w, ne_eqb _ _ n)
+packet_bytes : (s : List ℕ) (st : State) (r : Result (Outcome State) Refusal) (image buf : List ℕ)
+    → packet_card (record_left encode_state s r) image buf (answer_left r) ≡ packet_left s (left st r image buf)
+unfolding packet_left
+packet_bytes s st (Ok out) image buf = refl
+packet_bytes s st (Err r) image buf = rw (not_zero r)
 
-  pub packet_written : (new : List ℕ) → o.answer.number ≡ 0 → new ≡ encode_state o.state → OutcomeLeft s o new answer
-  unfolding packet_left
-  packet_written new n f image buf = rw (f, w, eq-eqb _ _ n)
+module _ (s : List ℕ) (st : State) (r : Result (Outcome State) Refusal) (s' image' buf' answer : List ℕ)
+    (q : st ≡ decode_state s) (kept : s' ≡ record_left encode_state s r) (told : answer ≡ answer_left r) where
+  bytes : packet_card s' image' buf' answer ≡ packet_left s (left st r image' buf')
+  bytes = rw (kept, told) (packet_bytes s st r image' buf')
 
-module _ (s image packet buf : List ℕ) (st : State) (o : Outcome) (s' image' buf' answer : List ℕ)
-    (q : st ≡ decode_state s) (l : OutcomeLeft s o s' answer) where
-  pub packet_left_lem : done o image' buf' ≡ packet_step image st packet buf → packet_card s' image' buf' answer ≡ packet_call s image packet buf
+  pub packet_call_left : (image packet buf : List ℕ) → left st r image' buf' ≡ packet_step image st packet buf
+      → packet_card s' image' buf' answer ≡ packet_call s image packet buf
   unfolding packet_call
-  packet_left_lem e = rw (← q, ← e) (l image' buf')
+  packet_call_left image packet buf e = rw (← q, ← e) bytes
 
-  pub index_packet_left : (index index' : List ℕ) → indexed (done o image' buf') index' ≡ indexed_step image index st packet buf
+  pub index_call_left : (image packet buf index index' : List ℕ) → indexed (left st r image' buf') index' ≡ indexed_step image index st packet buf
       → index_card (packet_card s' image' buf' answer) index' ≡ index_packet_call s image index packet buf
   unfolding index_packet_call indexed_left
-  index_packet_left index index' e = rw (← q, ← e) (ap (λ (x : PacketCard). index_card x index') (l image' buf'))
+  index_call_left image packet buf index index' e = rw (← q, ← e) (ap (λ x. index_card x index') bytes)
 
-  pub import_left : (file : List ℕ) → done o image' file ≡ imports image st file → packet_card s' image' file answer ≡ import_call s image file
+  pub import_call_left : (image : List ℕ) → left st r image' buf' ≡ imports image st buf' → packet_card s' image' buf' answer ≡ import_call s image buf'
   unfolding import_call
-  import_left file e = rw (← q, ← e) (l image' file)
+  import_call_left image e = rw (← q, ← e) bytes
 
-pub index_make_left : (image index index' answer : List ℕ) (r : Answer) → made r index' ≡ makes image index → answer ≡ encode_answer r
-    → index_told index' answer ≡ index_make_call image index
+pub index_make_left : (image index index' answer : List ℕ) (r : Result Told Refusal) → made (answer_of r) index' ≡ makes image index
+    → answer ≡ encode_answer (answer_of r) → index_told index' answer ≡ index_make_call image index
 unfolding index_make_call made_left
-index_make_left image index index' answer r e w = rw (← e) (ap (λ (x : List ℕ). index_told index' x) w)
+index_make_left image index index' answer r e w = rw (← e) (ap (λ x. index_told index' x) w)
 
-pub export_left_lem : (image file file' answer : List ℕ) (r : Answer) → exported r file' ≡ exports image file → answer ≡ encode_answer r
-    → export_told file' answer ≡ export_call image file
+pub export_call_left : (image file file' answer : List ℕ) (r : Result Told Refusal) → exported (answer_of r) file' ≡ exports image file
+    → answer ≡ encode_answer (answer_of r) → export_told file' answer ≡ export_call image file
 unfolding export_call export_left
-export_left_lem image file file' answer r e w = rw (← e) (ap (λ (x : List ℕ). export_told file' x) w)
+export_call_left image file file' answer r e w = rw (← e) (ap (λ x. export_told file' x) w)
 
 -- ---- the floppy tape device
 
-module _ (s answer : List ℕ) (o : FloppyOutcome) (w : answer ≡ encode_answer o.answer) where
-  pub floppy_kept : (o.answer.number ≡ 0 → ⊥) → floppy_told s answer ≡ floppy_left s o
-  unfolding floppy_left
-  floppy_kept n = rw (w, ne_eqb _ _ n)
+floppy_bytes : (s : List ℕ) (f : Floppy) (r : Result (Outcome Floppy) Refusal) (image buf : List ℕ)
+    → floppy_card (record_left encode_floppy s r) image buf (answer_left r) ≡ floppy_packet_left s (left f r image buf)
+unfolding floppy_packet_left
+floppy_bytes s f (Ok out) image buf = refl
+floppy_bytes s f (Err r) image buf = rw (not_zero r)
 
-  pub floppy_written : (new : List ℕ) → o.answer.number ≡ 0 → new ≡ encode_floppy o.state → floppy_told new answer ≡ floppy_left s o
-  unfolding floppy_left
-  floppy_written new n f = rw (f, w, eq-eqb _ _ n)
+floppy_two : (s : List ℕ) (f : Floppy) (r : Result (Outcome Floppy) Refusal) (image buf : List ℕ)
+    → floppy_told (record_left encode_floppy s r) (answer_left r) ≡ floppy_left s (left f r image buf)
+unfolding floppy_left
+floppy_two s f (Ok out) image buf = refl
+floppy_two s f (Err r) image buf = rw (not_zero r)
 
-module _ (s image : List ℕ) (f : Floppy) (o : FloppyOutcome) (left : FloppyTold) (q : f ≡ decode_floppy s) (l : left ≡ floppy_left s o) where
-  pub floppy_fresh_left : o ≡ fresh_floppy image f → left ≡ floppy_fresh_call s image
+module _ (s image : List ℕ) (f : Floppy) (r : Result (Outcome Floppy) Refusal) (s' answer : List ℕ)
+    (q : f ≡ decode_floppy s) (kept : s' ≡ record_left encode_floppy s r) (told : answer ≡ answer_left r) where
+  pub floppy_fresh_left : left f r image [] ≡ fresh_floppy image f → floppy_told s' answer ≡ floppy_fresh_call s image
   unfolding floppy_fresh_call
-  floppy_fresh_left e = rw (l, e, q)
+  floppy_fresh_left e = rw (← q, ← e, kept, told) (floppy_two s f r image [])
 
-  pub floppy_change_left : o ≡ changed_floppy image f → left ≡ floppy_change_call s image
+  pub floppy_change_left : left f r image [] ≡ changed_floppy image f → floppy_told s' answer ≡ floppy_change_call s image
   unfolding floppy_change_call
-  floppy_change_left e = rw (l, e, q)
+  floppy_change_left e = rw (← q, ← e, kept, told) (floppy_two s f r image [])
 
-pub floppy_packet_left_lem : (s image packet buf : List ℕ) (f : Floppy) (o : FloppyOutcome) (s' image' buf' answer : List ℕ) → f ≡ decode_floppy s
-    → leaves o image' buf' ≡ floppy_step image f packet buf → floppy_told s' answer ≡ floppy_left s o
-    → floppy_card s' image' buf' answer ≡ floppy_packet_call s image packet buf
-unfolding floppy_packet_call floppy_packet_left floppy_left
-floppy_packet_left_lem s image packet buf f o s' image' buf' answer q e l =
-    rw (← q, ← e) (ap (λ (x : FloppyTold). floppy_card x.state image' buf' x.answer) l)
+  pub floppy_call_left : (packet buf image' buf' : List ℕ) → left f r image' buf' ≡ floppy_step image f packet buf
+      → floppy_card s' image' buf' answer ≡ floppy_packet_call s image packet buf
+  unfolding floppy_packet_call
+  floppy_call_left packet buf image' buf' e = rw (← q, ← e, kept, told) (floppy_bytes s f r image' buf')
 
 -- ---- the pulse drive
 
@@ -114,64 +117,44 @@ pub power_left : (new : List ℕ) (d : Drive) (vendor rom : ℕ) → d ≡ power
 unfolding pulse_power_on
 power_left new d vendor rom q e = rw (e, q)
 
-module _ (s answer : List ℕ) (number : ℕ) (level : Bool) (ticks : ℕ) (d : Drive) (w : answer ≡ encode_told number level ticks) where
-  pub pulse_kept : (number ≡ 0 → ⊥) → pulse_card s answer ≡ pulse_left s number level ticks d
-  unfolding pulse_left
-  pulse_kept n = rw (w, ne_eqb _ _ n)
+waited_bytes : (s : List ℕ) (d : Drive) (r : Result Passed Refusal) → pulse_card (drive_left s r) (waited_answer r) ≡ waited_left s (told_wait d r)
+unfolding pulse_left
+waited_bytes s d (Ok w) = refl
+waited_bytes s d (Err r) = rw (not_zero r)
 
-  pub pulse_written : (new : List ℕ) → number ≡ 0 → new ≡ encode_drive d → pulse_card new answer ≡ pulse_left s number level ticks d
-  unfolding pulse_left
-  pulse_written new n f = rw (f, w, eq-eqb _ _ n)
+step_bytes : (s : List ℕ) (d : Drive) (r : Result Drive Refusal) → pulse_card (drive_left s (at_once r)) (waited_answer (at_once r)) ≡ step_left s (told d r)
+unfolding pulse_left
+step_bytes s d (Ok next) = refl
+step_bytes s d (Err r) = rw (not_zero r)
 
-module _ (s : List ℕ) (d : Drive) (x : Step) (left : PulseCard) (q : d ≡ decode_drive s) (l : left ≡ pulse_left s x.number x.level 0 x.drive) where
-  pub train_left : (n : ℕ) → x ≡ train_call d n → left ≡ pulse_train s n
+module _ (s : List ℕ) (d : Drive) (r : Result Drive Refusal) (w : Result Passed Refusal) (s' answer : List ℕ) (q : d ≡ decode_drive s)
+    (once : w ≡ at_once r) (kept : s' ≡ drive_left s w) (tells : answer ≡ waited_answer w) where
+  step : pulse_card s' answer ≡ step_left s (told d r)
+  step = rw (kept, tells, once) (step_bytes s d r)
+
+  pub train_left : (n : ℕ) → told d r ≡ train_call d n → pulse_card s' answer ≡ pulse_train s n
   unfolding pulse_train
-  train_left n e = rw (l, e, q)
+  train_left n e = rw (← q, ← e) step
 
-  pub trains_left : (counts levels levels' : List ℕ) → sent x levels' ≡ trains_call d counts levels → list_card left levels' ≡ pulse_trains s counts levels
+  pub trains_left : (counts levels levels' : List ℕ) → sent (told d r) levels' ≡ trains_call d counts levels
+      → list_card (pulse_card s' answer) levels' ≡ pulse_trains s counts levels
   unfolding pulse_trains
-  trains_left counts levels levels' e = rw (← q, ← e) (ap (λ (c : PulseCard). list_card c levels') l)
+  trains_left counts levels levels' e = rw (← q, ← e) (ap (λ c. list_card c levels') step)
 
-  pub tick_left : x ≡ tick_call d → left ≡ pulse_tick s
+  pub tick_left : told d r ≡ tick_call d → pulse_card s' answer ≡ pulse_tick s
   unfolding pulse_tick
-  tick_left e = rw (l, e, q)
+  tick_left e = rw (← q, ← e) step
 
-  pub insert_left : (bytes : List ℕ) (cart : Cartridge) (place : ℕ) → cart ≡ described_cartridge bytes → place ≡ described_place bytes →
-      x ≡ insert_call d cart place → left ≡ pulse_insert s bytes
+  pub insert_left : (given : List ℕ) (cart : Cartridge) (place : ℕ) → cart ≡ described_cartridge given → place ≡ described_place given
+      → told d r ≡ insert_call d cart place → pulse_card s' answer ≡ pulse_insert s given
   unfolding pulse_insert
-  insert_left bytes cart place c p e = rw (l, e, c, p, q)
+  insert_left given cart place c p e = rw (← q, ← c, ← p, ← e) step
 
-  pub remove_left : x ≡ remove_call d → left ≡ pulse_remove s
+  pub remove_left : told d r ≡ remove_call d → pulse_card s' answer ≡ pulse_remove s
   unfolding pulse_remove
-  remove_left e = rw (l, e, q)
+  remove_left e = rw (← q, ← e) step
 
-pub wait_left : (s : List ℕ) (d : Drive) (x : Waited) (left : PulseCard) (limit : ℕ) → d ≡ decode_drive s → x ≡ wait_call d limit
-    → left ≡ pulse_left s x.number x.level x.ticks x.drive → left ≡ pulse_wait s limit
+pub wait_left : (s : List ℕ) (d : Drive) (r : Result Passed Refusal) (s' answer : List ℕ) (limit : ℕ) → d ≡ decode_drive s → told_wait d r ≡ wait_call d limit
+    → s' ≡ drive_left s r → answer ≡ waited_answer r → pulse_card s' answer ≡ pulse_wait s limit
 unfolding pulse_wait
-wait_left s d x left limit q e l = rw (l, e, q)
-
-pub ruleset ways = (
-  fresh_left,
-  change_left,
-  packet_kept,
-  packet_written,
-  packet_left_lem,
-  index_packet_left,
-  index_make_left,
-  import_left,
-  export_left_lem,
-  floppy_kept,
-  floppy_written,
-  floppy_fresh_left,
-  floppy_change_left,
-  floppy_packet_left_lem,
-  power_left,
-  pulse_kept,
-  pulse_written,
-  train_left,
-  trains_left,
-  tick_left,
-  insert_left,
-  remove_left,
-  wait_left,
-)
+wait_left s d r s' answer limit q e kept tells = rw (← q, ← e, kept, tells) (waited_bytes s d r)

@@ -2,11 +2,10 @@
 -- Assumes nothing.
 use Rattle.std.specs.Prelude.{ℕ, List, ◌≡◌, if◌then◌else◌}
 use Rattle.numbers.specs.Choice.{◌≡ᵇ◌}
-use Rattle.packet_state.specs.declared.state.Answer.{Answer}
+use Rattle.packet_state.specs.Answers.{Answer}
 use Rattle.packet_parts.specs.Answers.{Left}
 use Rattle.packet_record.specs.PacketRecord.{encode_answer}
 use Rattle.floppy_parts.specs.declared.tape.Floppy.{Floppy}
-use Rattle.floppy_parts.specs.declared.tape.FloppyOutcome.{FloppyOutcome}
 use Rattle.floppy.specs.Packet.{fresh_floppy, changed_floppy, floppy_step}
 use Rattle.floppy_record.specs.FloppyRecord.{decode_floppy, encode_floppy}
 
@@ -32,7 +31,7 @@ floppy_card state image buf answer = record { state = state; image = image; buf 
 abbrev pub floppy_record : List ℕ → Answer → Floppy → List ℕ
 floppy_record state answer f = if answer.number ≡ᵇ 0 then encode_floppy f else state
 
-unfoldable pub floppy_left : List ℕ → FloppyOutcome → FloppyTold
+unfoldable pub floppy_left : List ℕ → Left Floppy → FloppyTold
 floppy_left state x = floppy_told (floppy_record state x.answer x.state) (encode_answer x.answer)
 
 unfoldable pub floppy_packet_left : List ℕ → Left Floppy → FloppyCard

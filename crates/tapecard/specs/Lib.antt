@@ -1,3 +1,4 @@
+pub mod Leaving
 pub mod PacketCalls
 pub mod IndexCalls
 pub mod ExchangeCalls

@@ -2,10 +2,9 @@
 -- Assumes nothing.
 use Rattle.std.specs.Prelude.{ℕ, List, ◌≡◌, if◌then◌else◌}
 use Rattle.numbers.specs.Choice.{◌≡ᵇ◌}
-use Rattle.packet_state.specs.declared.state.Outcome.{Outcome}
 use Rattle.packet_state.specs.declared.state.State.{State}
 use Rattle.packet_state.specs.States.{fresh_state, changed_state}
-use Rattle.packet_parts.specs.Answers.{Left, done}
+use Rattle.packet_parts.specs.Answers.{Left}
 use Rattle.stream.specs.Packet.{packet_step}
 use Rattle.packet_record.specs.PacketRecord.{decode_state, encode_state, encode_answer}
 
@@ -34,10 +33,6 @@ packet_left state x =
     x.image
     x.buf
     (encode_answer x.answer)
-
--- what an outcome leaves of record and answer, with any image and buffer beside them
-abbrev pub OutcomeLeft : List ℕ → Outcome → List ℕ → List ℕ → Type 0
-OutcomeLeft state out state' answer = (image buf : List ℕ) → packet_card state' image buf answer ≡ packet_left state (done out image buf)
 
 -- all that `tapecard_packet` leaves: record, image, buffer, answer
 unfoldable pub packet_call : List ℕ → List ℕ → List ℕ → List ℕ → PacketCard

@@ -2,11 +2,9 @@
 -- Assumes nothing.
 use Rattle.std.specs.Prelude.{ℕ, Bool, List, ◌≡◌, if◌then◌else◌}
 use Rattle.numbers.specs.Choice.{◌≡ᵇ◌}
-use Rattle.pulse.specs.declared.calls.Step.{Step}
-use Rattle.pulse.specs.declared.calls.Waited.{Waited}
 use Rattle.pulse.specs.declared.drive.Drive.{Drive}
 use Rattle.pulse.specs.Drives.{power_on}
-use Rattle.pulse.specs.Calls.{train_call, tick_call, insert_call, remove_call, wait_call}
+use Rattle.pulse.specs.Calls.{Step, Waited, train_call, tick_call, insert_call, remove_call, wait_call}
 use Rattle.pulse.specs.Trains.{Sent, trains_call}
 use Rattle.pulse_record.specs.PulseRecord.{decode_drive, encode_drive, encode_told, described_cartridge, described_place}
 

@@ -2,7 +2,7 @@
 ghost use Rattle.tapecard.specs.PacketCalls.{packet_card};
 ghost use Rattle.tapecard.specs.ExchangeCalls.{export_told, ExportCallPromise, ImportCallPromise};
 
-use crate::packet_calls::leave;
+use crate::leaving::leave;
 use exchange::exporting::export;
 use exchange::importing::import;
 use packet_record::{decode_state, encode_answer};
@@ -10,15 +10,13 @@ use packet_record::{decode_state, encode_answer};
 pub fn tapecard_export(image: &[u8], file: &mut [u8], answer: &mut [u8; 16])
     ensures { ExportCallPromise image.now file.old (export_told file.new answer.new) }
 {
-    let told = export(image, file);
-    *answer = encode_answer(told);
+    *answer = encode_answer(export(image, file));
 }
 
 pub fn tapecard_import(state: &mut [u8; 16], image: &mut [u8], file: &[u8], answer: &mut [u8; 16])
     ensures { ImportCallPromise state.old image.old file.now
         (packet_card state.new image.new file.now answer.new) }
 {
-    let before = decode_state(state);
-    let outcome = import(image, before, file);
-    leave(state, answer, outcome);
+    let left = import(image, decode_state(state), file);
+    leave(state, answer, left);
 }

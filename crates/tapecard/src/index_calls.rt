@@ -2,14 +2,13 @@
 ghost use Rattle.tapecard.specs.PacketCalls.{packet_card};
 ghost use Rattle.tapecard.specs.IndexCalls.{index_told, index_card, IndexMakePromise, IndexCallPromise};
 
-use crate::packet_calls::leave;
+use crate::leaving::leave;
 use packet_record::{decode_state, encode_answer};
 
 pub fn tapecard_index_make(image: &[u8], index: &mut [u8], answer: &mut [u8; 16])
     ensures { IndexMakePromise image.now index.old (index_told index.new answer.new) }
 {
-    let told = index::make(image, index);
-    *answer = encode_answer(told);
+    *answer = encode_answer(index::make(image, index));
 }
 
 pub fn tapecard_index_packet(
@@ -23,7 +22,6 @@ pub fn tapecard_index_packet(
     ensures { IndexCallPromise state.old image.old index.old packet.now buf.old
         (index_card (packet_card state.new image.new buf.new answer.new) index.new) }
 {
-    let before = decode_state(state);
-    let outcome = index::packet(image, index, before, packet, buf);
-    leave(state, answer, outcome);
+    let left = index::packet(image, index, decode_state(state), packet, buf);
+    leave(state, answer, left);
 }

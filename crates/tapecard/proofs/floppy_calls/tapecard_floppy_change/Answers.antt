@@ -1,6 +1,7 @@
 -- `floppy_calls::tapecard_floppy_change` meets its contract.
-use Rattle.tapecard.proofs.CallLaws.{ways}
+use Rattle.tapecard.proofs.CallLaws.{floppy_change_left}
 use Rattle.tapecard.proofs.floppy_calls.tapecard_floppy_change.Goals as goal
 
 pub returns : goal.returns
-returns c = search ways
+returns c =
+    floppy_change_left _ _ _ _ _ _ c.decode_floppy.ensures c.leave.ensures.state_after c.leave.ensures.answer_after c.changed-left.ensures

@@ -1,6 +1,7 @@
 -- `floppy_calls::tapecard_floppy_fresh` meets its contract.
-use Rattle.tapecard.proofs.CallLaws.{ways}
+use Rattle.tapecard.proofs.CallLaws.{floppy_fresh_left}
 use Rattle.tapecard.proofs.floppy_calls.tapecard_floppy_fresh.Goals as goal
 
 pub returns : goal.returns
-returns c = search ways
+returns c =
+    floppy_fresh_left _ _ _ _ _ _ c.decode_floppy.ensures c.leave.ensures.state_after c.leave.ensures.answer_after c.fresh-left.ensures

@@ -1,6 +1,7 @@
 -- `floppy_calls::tapecard_floppy_packet` meets its contract.
-use Rattle.tapecard.proofs.CallLaws.{ways}
+use Rattle.tapecard.proofs.CallLaws.{floppy_call_left}
 use Rattle.tapecard.proofs.floppy_calls.tapecard_floppy_packet.Goals as goal
 
 pub returns : goal.returns
-returns c = search ways
+returns c =
+    floppy_call_left _ _ _ _ _ _ c.decode_floppy.ensures c.leave.ensures.state_after c.leave.ensures.answer_after _ _ _ _ c.packet-left.ensures
