@@ -19,3 +19,5 @@ warning_within s h good = let g = sound s h good in omega arith
 pub room_for_position : (k : Command) (h : Header) (q : Request) (room : ℕ) → k ≡ ReadPosition → (asked_by k h q).needed ≤ room → 20 ≤ room
 unfolding asked_by
 room_for_position k h q room e l = rw e at l
+
+pub ruleset work_ways = (warning_within, room_for_position)

@@ -182,7 +182,7 @@ fn locate(h: Header, state: State, target: u32) -> Outcome<State>
     end(state.at_place(target), Ok(()), 0, 0)
 }
 
-#[tactic(auto, using(crate::proofs::WorkLaws::room_for_position, crate::proofs::WorkLaws::warning_within), unfolding(crate::specs::Work::work_of, stream_parts::specs::Checks::asked_by))]
+#[tactic(auto, using(crate::proofs::WorkLaws::work_ways), unfolding(crate::specs::Work::work_of, stream_parts::specs::Checks::asked_by))]
 pub fn work(image: &mut [u8], h: Header, state: State, q: Request, buf: &mut [u8]) -> Outcome<State>
     requires passed { Passed image.old h state q }
     requires q_in_bounds { (asked_by q.command h q).needed ≤ length buf.old }

@@ -1,5 +1,6 @@
 -- 02, A3: the drive now is the drive before, but for the EOM that 8/00/05 carries on READ and SPACE.
 -- Assumes nothing.
+use Rattle.std.specs.Prelude.{Ok, Err}
 use Prim.Native.Nat.{ℕ, ◌-◌, ◌≤◌}
 use native.Mathlib.Omega.{arith}
 use mathlib.Core.Bool.{Bool, true, false, not, ◌&&◌, and-false, false≢true}
@@ -18,17 +19,18 @@ use Rattle.opcodes.specs.declared.Command.TheVariants.{ModeSelect, ModeSense, Lo
 use Rattle.transfer.specs.declared.Moved.{Moved}
 use Rattle.transfer.specs.declared.Stop.{Stop}
 use Rattle.transfer.specs.declared.Stop.TheVariants.{Full, AtFilemark, AtBadBlock, AtEnd, AtBeginning}
-use Rattle.packet_state.specs.declared.state.Ending.{Ending}
-use Rattle.packet_state.specs.declared.state.Ending.TheVariants.{Good, Check}
+use Rattle.packet_state.specs.Answers.{Ending}
 use Rattle.packet_state.specs.declared.state.Outcome.{Outcome}
 use Rattle.packet_state.specs.declared.state.State.{State}
 use Rattle.packet_state.specs.declared.state.Verdict.{Verdict}
 use Rattle.packet_parts.specs.declared.requests.Request.{Request}
-use Rattle.packet_parts.specs.Answers.{Left, short_buffer, done, ends, with_marked}
+use Rattle.packet_parts.specs.Answers.{Left, done, ends, with_marked}
 use Rattle.packet_parts.specs.Replies.{full_list, reply_ends}
 use Rattle.packet_parts.specs.Shell.{refuses, carried_out}
 use Rattle.packet_parts.proofs.VerdictLaws.{found_early, found-short, found-clear}
 use Rattle.packet_work.specs.Settings.{good_list, speed_work, load_work, lock_work}
+use Rattle.numbers.specs.Refusals.{number_of}
+use Rattle.numbers.specs.declared.refusals.Refusal.TheVariants.{ShortBuffer}
 use Rattle.packet_laws.specs.Words.{Passes}
 use Rattle.packet_laws.proofs.Endings.{ends_none}
 use Rattle.packet_laws.proofs.Ways.{FoundFor, carried, way_beside}
@@ -59,9 +61,9 @@ ended c h st AtBeginning left blocks bytes marked s buf e = rw e
 spaced : (h : Header) (st : State) (stop : Stop) (left : ℕ) (s buf : List ℕ)
     → done (ends st (ending_of h stop left) 0 0) s buf ≡ carrying_eom Space h (done (ends st (ending_of (with_warning h 0) stop left) 0 0) s buf)
 spaced h st stop left s buf =
-    ap (λ (x : Outcome). done x s buf) (sym (ends_none _ _ 0 0))
+    ap (λ (x : Outcome State). done x s buf) (sym (ends_none _ _ 0 0))
     ∙ ended Space h st stop left 0 0 0 s buf refl
-    ∙ ap (λ (x : Outcome). carrying_eom Space h (done x s buf)) (ends_none _ _ 0 0)
+    ∙ ap (λ (x : Outcome State). carrying_eom Space h (done x s buf)) (ends_none _ _ 0 0)
 
 work_now : (c : Command) (s : List ℕ) (h : Header) (st : State) (q : Request) (buf : List ℕ)
     → work_of c s h st q buf ≡ carrying_eom c h (work_of c s (seen_before c h) st q buf)
@@ -90,8 +92,8 @@ work_now PreventAllow s h st q buf = refl
 
 -- an 8/00/05 with EOM
 abbrev shows : Ending → Bool
-shows Good = false
-shows (Check x) = (x.key ≡ᵇ blank_check) && x.eom
+shows (Ok u) = false
+shows (Err x) = (x.key ≡ᵇ blank_check) && x.eom
 
 stop_shows : (h : Header) (stop : Stop) (left : ℕ) → h.recorded ≤ h.capacity → shows (ending_of (with_warning h 0) stop left) ≡ false
 unfolding ending_of
@@ -112,13 +114,13 @@ abbrev Plain : Left State → Type 0
 Plain x = tells_end x ≡ true → x.state.sense.eom ≡ false
 
 -- of an outcome, whatever image and buffer stand beside it
-abbrev PlainOut : Outcome → Type 0
+abbrev PlainOut : Outcome State → Type 0
 PlainOut out = Plain (done out [] [])
 
 ends_plain : (st : State) (e : Ending) (blocks bytes : ℕ) → shows e ≡ false → PlainOut (ends st e blocks bytes)
 unfolding ends
-ends_plain st Good blocks bytes f t = absurd (false≢true t)
-ends_plain st (Check x) blocks bytes f t = rw t at f
+ends_plain st (Ok u) blocks bytes f t = absurd (false≢true t)
+ends_plain st (Err x) blocks bytes f t = rw t at f
 
 work_plain : (c : Command) (s : List ℕ) (h : Header) (st : State) (q : Request) (buf : List ℕ) → h.recorded ≤ h.capacity
     → Plain (work_of c s (seen_before c h) st q buf)
@@ -176,7 +178,7 @@ module _ (s : List ℕ) (st : State) (packet buf : List ℕ) where
       → NowBefore (carried stream_device s st packet buf v) (carried device_before s st packet buf v)
   unfolding carried_out
   verdict_now p (found_early x e k) = other_now q.command h _ (ne_eqb x.key blank_check (λ z. omega arith))
-  verdict_now p (found-short e l) = refused_now short_buffer
+  verdict_now p (found-short e l) = refused_now (number_of ShortBuffer)
   verdict_now p (found-clear e l) =
       record {
         now = work_now q.command s h st q buf;

@@ -12,7 +12,7 @@ use Rattle.transfer.specs.declared.Moved.{Moved}
 use Rattle.transfer.specs.declared.Stop.{Stop}
 use Rattle.transfer.specs.declared.Stop.TheVariants.{Full, AtFilemark, AtBadBlock, AtEnd, AtBeginning}
 use Rattle.transfer.proofs.EndLaws.{Ended}
-use Rattle.packet_state.specs.declared.state.Ending.{Ending}
+use Rattle.packet_state.specs.Answers.{Ending}
 use Rattle.packet_state.specs.declared.state.Sense.{Sense}
 use Rattle.packet_state.specs.States.{highest_key}
 use Rattle.stream_parts.specs.Warning.{past_warning}

@@ -1,6 +1,6 @@
 -- Images that are alike below U are answered alike, and stay alike.
 -- Assumes nothing.
-use Rattle.std.specs.Prelude.{if◌then◌else◌}
+use Rattle.std.specs.Prelude.{Some, if◌then◌else◌}
 use Prim.Native.Nat.{ℕ, ◌-◌, ◌≤◌, ◌<◌}
 use native.Mathlib.Omega.{arith}
 use mathlib.Core.Bool.{Bool, true, false, not}
@@ -11,7 +11,6 @@ use lib.Dec.{eqb}
 use lib.ListN.{length}
 use Rattle.numbers.proofs.Cases.{test}
 use Rattle.image.specs.declared.header.Header.{Header}
-use Rattle.image.specs.declared.header.Judged.TheVariants.{Good as GoodHeader}
 use Rattle.image.specs.Elements.{holds_data, record_to}
 use Rattle.image.specs.Header.{fields_of, header_of, keeps_header_rules, broken_image}
 use Rattle.image.proofs.HeaderLaws.{fields_are, keeps_of, broken_of, good_header, broken_header, sound}
@@ -26,11 +25,11 @@ use Rattle.transfer.proofs.SameLaws.{marks_on_same, marks_back_same, marked_same
 use Rattle.transfer.proofs.ReadLaws.{read-few}
 use Rattle.transfer.specs.Reading.{read_from}
 use Rattle.transfer.specs.Writing.{Writing}
-use Rattle.packet_state.specs.declared.state.Outcome.{Outcome}
+use Rattle.packet_state.specs.Answers.{Answer}
 use Rattle.packet_state.specs.declared.state.State.{State}
 use Rattle.packet_state.specs.declared.state.Verdict.{Verdict}
 use Rattle.packet_parts.specs.declared.requests.Request.{Request}
-use Rattle.packet_parts.specs.Answers.{Left, done, not_twelve_bytes, unruly_record}
+use Rattle.packet_parts.specs.Answers.{Left, not_twelve_bytes, unruly_record}
 use Rattle.stream_parts.specs.Checks.{asked_by}
 use Rattle.stream_parts.specs.Requests.{request_of, magnitude, space_code}
 use Rattle.packet_state.specs.States.{keeps_record_rules}
@@ -73,10 +72,11 @@ record AnsweredSame (x y : Left State) : Type 0 where
   images : AlikeBelowU x.image y.image
 
 module _ (s t : List ℕ) (alike : AlikeBelowU s t) (st : State) where
-  looked : (out : Outcome) (buf : List ℕ) → AnsweredSame (done out s buf) (done out t buf)
-  looked out buf = record { answer = refl; state = refl; buf = refl; images = alike }
+  looked : (answer : Answer) (next : State) (buf : List ℕ)
+      → AnsweredSame (record { answer = answer; state = next; image = s; buf = buf }) (record { answer = answer; state = next; image = t; buf = buf })
+  looked answer next buf = record { answer = refl; state = refl; buf = refl; images = alike }
 
-  module _ (h : Header) (good : header_of s ≡ GoodHeader h) (rules : keeps_record_rules h.recorded st ≡ true) (q : Request) (buf : List ℕ) where
+  module _ (h : Header) (good : header_of s ≡ Some h) (rules : keeps_record_rules h.recorded st ≡ true) (q : Request) (buf : List ℕ) where
     within : st.position ≤ h.recorded
     within = (ruly_of h.recorded st rules).place
 
@@ -114,17 +114,17 @@ module _ (s t : List ℕ) (alike : AlikeBelowU s t) (st : State) where
 
     work-same : (c : Command) → (asked_by c h q).needed ≤ length buf → AnsweredSame (work_of c s h st q buf) (work_of c t h st q buf)
     unfolding work_of asked_by read_work read_ends space_work write_work mark_work
-    work-same Unknown l = looked _ _
-    work-same TestUnitReady l = looked _ _
-    work-same Rewind l = looked _ _
-    work-same RequestSense l = looked _ _
+    work-same Unknown l = looked _ _ _
+    work-same TestUnitReady l = looked _ _ _
+    work-same Rewind l = looked _ _ _
+    work-same RequestSense l = looked _ _ _
     work-same Read l =
         let X = read_from s h.size h.kinds h.blocks h.recorded q.count 0 st.position buf in
         let few = read-few s h.size h.kinds h.blocks h.recorded q.count 0 st.position buf within in
         rw (
           read_same h h.recorded s t below q.count 0 st.position buf,
           marked_same h h.recorded s t below (q.count - X.moved.left) st.position few,
-        ) (looked _ _)
+        ) (looked _ _ _)
     work-same Write l =
         let here = block_same h h.recorded full buf in
         wrote h.size _ _
@@ -133,20 +133,20 @@ module _ (s t : List ℕ) (alike : AlikeBelowU s t) (st : State) where
         let here = mark_same h h.recorded full in
         wrote 0 _ _
         (laid_same h h.recorded full _ 0 0 (λ off p s g c r. mark_laid s h g p c) here q.count 0 st.position s t same inside (omega arith))
-    work-same Space l = rw (space-same (space_code q) q.count) (looked _ _)
-    work-same Inquiry l = looked _ _
-    work-same ModeSelect l = looked _ _
-    work-same ModeSense l = looked _ _
-    work-same LoadUnload l = looked _ _
-    work-same Locate l = looked _ _
-    work-same ReadPosition l = looked _ _
-    work-same PreventAllow l = looked _ _
+    work-same Space l = rw (space-same (space_code q) q.count) (looked _ _ _)
+    work-same Inquiry l = looked _ _ _
+    work-same ModeSelect l = looked _ _ _
+    work-same ModeSense l = looked _ _ _
+    work-same LoadUnload l = looked _ _ _
+    work-same Locate l = looked _ _ _
+    work-same ReadPosition l = looked _ _ _
+    work-same PreventAllow l = looked _ _ _
 
     verdict-same : {v : Verdict} → Found (asked_by q.command h q) (is_protected h) st (length buf) v
         → AnsweredSame (carried_out stream_device v s h st q buf) (carried_out stream_device v t h st q buf)
     unfolding carried_out
-    verdict-same (found_early x e k) = looked _ _
-    verdict-same (found-short e l) = looked _ _
+    verdict-same (found_early x e k) = looked _ _ _
+    verdict-same (found-short e l) = looked _ _ _
     verdict-same (found-clear e l) = work-same q.command l
 
   same_fields : keeps_header_rules s ≡ true → fields_of t ≡ fields_of s
@@ -172,13 +172,13 @@ module _ (s t : List ℕ) (alike : AlikeBelowU s t) (st : State) where
       by_rules : (c : Bool) → keeps_header_rules s ≡ true → keeps_record_rules (fields_of s).recorded st ≡ c
           → AnsweredSame (after packet buf s (fields_of s) true true c) (after packet buf t (fields_of s) true true c)
       by_rules true g r = verdict-same (fields_of s) (good_header s g) r (request_of packet) buf (found _ _ _ _)
-      by_rules false g r = looked _ _
+      by_rules false g r = looked _ _ _
 
       by : (a b : Bool) → keeps_header_rules s ≡ b
           → AnsweredSame (after packet buf s (fields_of s) a b (keeps_record_rules (fields_of s).recorded st))
           (after packet buf t (fields_of t) a b (keeps_record_rules (fields_of t).recorded st))
-      by false b e = looked _ _
-      by true false e = looked _ _
+      by false b e = looked _ _ _
+      by true false e = looked _ _ _
       by true true e = rw (same_fields e) (by_rules (keeps_record_rules (fields_of s).recorded st) e refl)
 
 pub beyond_ignored : BeyondIgnored

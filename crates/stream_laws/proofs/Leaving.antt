@@ -1,6 +1,6 @@
 -- What an accepted packet leaves: one case split over the commands.
 -- Assumes nothing.
-use Rattle.std.specs.Prelude.{if◌then◌else◌}
+use Rattle.std.specs.Prelude.{Some, if◌then◌else◌}
 use Prim.Native.Nat.{ℕ, ◌+◌, ◌*◌, ◌-◌, ◌^◌, ◌≤◌, ◌<◌, min}
 use native.Mathlib.Nat.{le_refl, mul-le-mul_left}
 use native.Mathlib.Omega.{arith}
@@ -15,7 +15,6 @@ use Rattle.numbers.specs.Member.{is_in}
 use Rattle.numbers.proofs.Cases.{either}
 use Rattle.numbers.proofs.OverLaws.{over_length, over_above}
 use Rattle.image.specs.declared.header.Header.{Header}
-use Rattle.image.specs.declared.header.Judged.TheVariants.{Good as GoodHeader}
 use Rattle.image.specs.Header.{fields_of, keeps_header_rules, header_of, with_recorded}
 use Rattle.image.specs.Sameness.{SameElement, Outside}
 use Rattle.image.proofs.HeaderLaws.{good_header, sound}
@@ -34,8 +33,7 @@ use Rattle.transfer.proofs.WriteLaws.{lay_run, lay-left, lay-passed}
 use Rattle.transfer.proofs.LaidLaws.{Laid, Apart, off_kinds, off_blocks, marks_laid, blocks-laid}
 use Rattle.transfer.proofs.SpaceLaws.{blocks-on-ended, blocks-on-place, blocks-back-ended, blocks-back-place, marks-on-ended, marks_on_place}
 use Rattle.transfer.proofs.SpaceLaws.{marks-back-ended, marks-back-place}
-use Rattle.packet_state.specs.declared.state.Ending.{Ending}
-use Rattle.packet_state.specs.declared.state.Ending.TheVariants.{Good, Check}
+use Rattle.packet_state.specs.Answers.{Ending, Good, Check}
 use Rattle.packet_state.specs.declared.state.Outcome.{Outcome}
 use Rattle.packet_state.specs.declared.state.Sense.{Sense}
 use Rattle.packet_state.specs.declared.state.State.{State}
@@ -60,25 +58,23 @@ use Rattle.stream.specs.Work.{select_work, locate_work, work_of}
 use Rattle.packet_laws.specs.Words.{number_of, blocks_of, bytes_of, gives}
 use Rattle.packet_laws.proofs.Endings.{sense_of, ends_is}
 use Rattle.packet_laws.proofs.Replies.{first_length}
+use Rattle.packet_laws.proofs.Settling.{outcome_of}
 use Rattle.packet_laws.proofs.Ways.{Way, cut, broken, unruly, short, ends-early, works, way}
 use Rattle.stream_laws.specs.Words.{stores_on, stores, Untouched}
 use Rattle.stream_laws.proofs.Endings.{Modest, ending_modest, write_modest}
 
--- the outcome of a packet that is not refused: the record it leaves is in rule, and its numbers go by what was asked for
-pub record Accepted (h : Header) (q : Request) (x : Outcome) : Type 0 where
-  pub number : x.answer.number ≡ 0
+-- the outcome of a packet that is not refused: the record it leaves is in rule, and its counts go by what was asked for
+pub record Accepted (h : Header) (q : Request) (x : Outcome State) : Type 0 where
   pub ruly : Ruly h.recorded x.state
   pub information : x.state.sense.information ≤ q.count
   pub blocks : x.answer.blocks ≤ h.capacity
   pub bytes : x.answer.bytes ≤ x.answer.blocks * h.size + (q.length + position_length)
   pub marked : x.answer.marked ≤ x.answer.blocks
 
-abbrev pub outcome_of : Left State → Outcome
-outcome_of x = record { answer = x.answer; state = x.state }
-
 pub record Leaves (s : List ℕ) (st : State) (q : Request) (buf : List ℕ) (storing giving : Bool) (x : Left State) : Type 0 where
+  pub unrefused : number_of x ≡ 0
   pub u : ℕ
-  pub header : header_of x.image ≡ GoodHeader (with_recorded (fields_of s) u)
+  pub header : header_of x.image ≡ Some (with_recorded (fields_of s) u)
   pub reached : st.position ≤ u
   pub new_u : storing ≡ true → 1 ≤ blocks_of x → u ≡ x.state.position
   pub accepted : Accepted (with_recorded (fields_of s) u) q (outcome_of x)
@@ -108,11 +104,12 @@ module _ (s : List ℕ) (st : State) (q : Request) (buf : List ℕ) (good : keep
 
   -- ---- commands that keep the image
 
-  stays : (storing giving : Bool) (out : Outcome) (new : List ℕ) → Accepted h q out → length new ≡ length buf
+  stays : (storing giving : Bool) (out : Outcome State) (new : List ℕ) → Accepted h q out → length new ≡ length buf
       → ((i : ℕ) → out.answer.bytes ≤ i → get_or new i 0 ≡ get_or buf i 0) → (giving ≡ false → new ≡ buf)
       → (storing ≡ true → out.answer.blocks ≡ 0) → Leaves s st q buf storing giving (done out s new)
   stays storing giving out new a l b g z =
       record {
+        unrefused = refl;
         u = h.recorded;
         header = good_header s good;
         reached = kept_rules.place;
@@ -132,11 +129,11 @@ module _ (s : List ℕ) (st : State) (q : Request) (buf : List ℕ) (good : keep
       → blocks ≤ h.capacity → bytes ≤ blocks * h.size + (q.length + position_length) → Accepted (with_recorded h u) q (ends next e blocks bytes)
   ended u next e blocks bytes p f m b l =
       rw ends_is
-      (record { number = refl; ruly = record { place = p; speed = f; key = m.0 }; information = m.1; blocks = b; bytes = l; marked = omega arith })
+      (record { ruly = record { place = p; speed = f; key = m.0 }; information = m.1; blocks = b; bytes = l; marked = omega arith })
 
   -- with so many of its blocks told as marked
-  telling : (u : ℕ) (x : Outcome) (k : ℕ) → k ≤ x.answer.blocks → Accepted (with_recorded h u) q x → Accepted (with_recorded h u) q (with_marked x k)
-  telling u x k l a = record { number = a.number; ruly = a.ruly; information = a.information; blocks = a.blocks; bytes = a.bytes; marked = l }
+  telling : (u : ℕ) (x : Outcome State) (k : ℕ) → k ≤ x.answer.blocks → Accepted (with_recorded h u) q x → Accepted (with_recorded h u) q (with_marked x k)
+  telling u x k l a = record { ruly = a.ruly; information = a.information; blocks = a.blocks; bytes = a.bytes; marked = l }
 
   -- nothing but the record changes
   quiet : (next : State) (e : Ending) (bytes : ℕ) → next.position ≤ h.recorded → is_in next.speed speeds ≡ true
@@ -150,7 +147,7 @@ module _ (s : List ℕ) (st : State) (q : Request) (buf : List ℕ) (good : keep
       let r = kept_rules in
       let k : Ruly h.recorded (ends_before st x).state = record { place = r.place; speed = r.speed; key = m.0 } in
       stays storing giving (ends_before st x) buf
-      (record { number = refl; ruly = k; information = omega arith; blocks = omega arith; bytes = omega arith; marked = omega arith })
+      (record { ruly = k; information = omega arith; blocks = omega arith; bytes = omega arith; marked = omega arith })
       refl (λ i l. refl) (λ f. refl) (λ f. refl)
 
   replies : (bytes : List ℕ) (asked : ℕ) → asked ≤ q.length + position_length → min asked (length bytes) ≤ length buf
@@ -188,7 +185,7 @@ module _ (s : List ℕ) (st : State) (q : Request) (buf : List ℕ) (good : keep
       (λ f. absurd (false≢true f))
 
   -- image and buffer stay, and this is the outcome
-  abbrev LeavesOnly : Outcome → Type 0
+  abbrev LeavesOnly : Outcome State → Type 0
   LeavesOnly out = Leaves s st q buf false false (done out s buf)
 
   abbrev far : ℕ
@@ -282,6 +279,7 @@ module _ (s : List ℕ) (st : State) (q : Request) (buf : List ℕ) (good : keep
       let c = after_reached h.recorded p place kept_rules.place in
       let b = mul-le-mul_left (n - X.moved.left) y in
       record {
+        unrefused = refl;
         u = recorded_after h.recorded p place;
         header = record_header X.image h w.header p place g;
         reached = omega arith;

@@ -28,7 +28,7 @@ use Rattle.stream_laws.specs.Demands.{MarkedCounted}
 use Rattle.stream_laws.proofs.Refusals.{working}
 
 module _ (s : List ℕ) (h : Header) (st : State) (q : Request) (buf : List ℕ) where
-  abbrev Unmarked : Outcome → Type 0
+  abbrev Unmarked : Outcome State → Type 0
   Unmarked out = out.answer.marked ≡ 0
 
   unmarked : (c : Command) → (c ≡ Read → ⊥) → marked_of (work_of c s h st q buf) ≡ 0

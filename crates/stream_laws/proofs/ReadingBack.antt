@@ -12,7 +12,7 @@ use Rattle.numbers.proofs.Cases.{test}
 use Rattle.image.specs.declared.elements.Kind.{Kind}
 use Rattle.image.specs.declared.elements.Kind.TheVariants.{Data}
 use Rattle.image.specs.declared.header.Header.{Header}
-use Rattle.image.specs.declared.header.Judged.TheVariants.{Good}
+use Rattle.std.specs.Prelude.{Some}
 use Rattle.image.specs.Elements.{block_at}
 use Rattle.image.specs.Header.{fields_of, header_of, with_recorded}
 use Rattle.image.proofs.HeaderLaws.{fields_are, good_header, block_kept, sound}
@@ -78,7 +78,7 @@ later_block kind i bytes (replaced st'' l) b = later_block kind i bytes l b
 
 -- ---- what READ copies
 
-module _ (s : List ℕ) (st : State) (q : Request) (buf : List ℕ) (good : header_of s ≡ Good (fields_of s)) (place : st.position ≤ (fields_of s).recorded)
+module _ (s : List ℕ) (st : State) (q : Request) (buf : List ℕ) (good : header_of s ≡ Some (fields_of s)) (place : st.position ≤ (fields_of s).recorded)
     (room : q.count * (fields_of s).size ≤ length buf) where
   abbrev h : Header
   h = fields_of s

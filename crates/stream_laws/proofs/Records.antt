@@ -23,7 +23,7 @@ use Rattle.stream.specs.Packet.{stream_device}
 use Rattle.stream.specs.Work.{read_ends, read_work, write_ends, write_work, mark_work, space_work, select_work, locate_work, work_of}
 
 module _ (s : List ℕ) (h : Header) (st : State) (q : Request) (buf : List ℕ) where
-  abbrev KeptBy : Command → Outcome → Type 0
+  abbrev KeptBy : Command → Outcome State → Type 0
   KeptBy c out = Keeps c q buf st out.state
 
   work_keeps : (c : Command) → Keeps c q buf st (work_of c s h st q buf).state

@@ -1,19 +1,18 @@
 -- Refused packets and packets that begin, as for every packet device, and that every outcome is settled.
 -- Assumes nothing.
-use mathlib.Core.Path.{sym, ap, ◌∙◌}
+use mathlib.Core.Path.{sym, ◌∙◌}
 use Rattle.numbers.proofs.Cases.{settles}
-use Rattle.packet_state.specs.declared.state.State.{State}
 use Rattle.packet_state.specs.States.{fresh_state, changed_state}
-use Rattle.packet_parts.specs.Answers.{Left}
 use Rattle.packet_laws.specs.Words.{Working}
 use Rattle.packet_laws.proofs.Refusals as any-device
+use Rattle.packet_laws.proofs.Settling.{left_settled}
 use Rattle.stream.specs.Packet.{stream_device}
 use Rattle.stream_laws.specs.Demands.{CutPacket, RefusedKeeps, NumberExactly, BeginsExactly, Settled}
-use Rattle.stream_laws.proofs.Leaving.{outcome_of, work_leaves}
+use Rattle.stream_laws.proofs.Leaving.{work_leaves}
 
 -- the work refuses nothing
 pub working : Working stream_device
-working = record { accepted = λ s st packet buf p l. (work_leaves s st _ buf p.good p.ruly _ l).accepted.number }
+working = record { accepted = λ s st packet buf p l. (work_leaves s st _ buf p.good p.ruly _ l).unrefused }
 
 pub cut_packet : CutPacket
 cut_packet = any-device.cut_packet stream_device working
@@ -30,9 +29,7 @@ begins_exactly = any-device.begins_exactly stream_device working
 pub settled : Settled
 settled =
     record {
-      packet = λ s st packet buf r r' i i' b b' p q.
-          let e = p ∙ sym q in
-          (ap outcome_of e, ap (λ (x : Left State). x.image) e, ap (λ (x : Left State). x.buf) e);
+      packet = λ s st packet buf r r' i i' b b' p q. left_settled st r r' i i' b b' (p ∙ sym q);
       fresh = settles fresh_state;
       changed = λ st. settles (changed_state st);
     }

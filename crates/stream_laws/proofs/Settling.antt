@@ -14,12 +14,12 @@ use Rattle.numbers.proofs.OverLaws.{part_at}
 use Rattle.image.specs.declared.elements.Kind.TheVariants.{Data, Filemark}
 use Rattle.numbers.proofs.Cases.{test}
 use Rattle.image.specs.declared.header.Header.{Header}
-use Rattle.image.specs.declared.header.Judged.TheVariants.{Good}
+use Rattle.std.specs.Prelude.{Some}
 use Rattle.image.specs.Elements.{holds_data, is_filemark, kind_at}
 use Rattle.image.specs.Header.{fields_of, with_recorded}
 use Rattle.image.specs.Sameness.{ReadsSame}
 use Rattle.image.proofs.HeaderLaws.{good_header}
-use Rattle.packet_state.specs.declared.state.Answer.{Answer}
+use Rattle.packet_state.specs.Answers.{Answer}
 use Rattle.packet_state.specs.declared.state.Sense.{Sense}
 use Rattle.packet_state.specs.declared.state.State.{State}
 use Rattle.packet_state.specs.Senses.{volume_overflow}
@@ -232,7 +232,7 @@ module _ (Holds : List ℕ → ℕ → Type 0) (each : ℕ) (s : List ℕ) (st :
     one-image : AlikeBelowU x.image y.image
     one-image =
         record {
-          header = good_header y.image g'.image_good ∙ ap Good one-header ∙ sym (good_header x.image g.image_good);
+          header = good_header y.image g'.image_good ∙ ap Some one-header ∙ sym (good_header x.image g.image_good);
           elements = element;
         }
 

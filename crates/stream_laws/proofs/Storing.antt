@@ -12,7 +12,7 @@ use Rattle.numbers.specs.Over.{part}
 use Rattle.image.specs.declared.elements.Kind.TheVariants.{Data, Filemark}
 use Rattle.numbers.proofs.Cases.{test}
 use Rattle.image.specs.declared.header.Header.{Header}
-use Rattle.image.specs.declared.header.Judged.TheVariants.{Good}
+use Rattle.std.specs.Prelude.{Some}
 use Rattle.image.specs.Elements.{record_to}
 use Rattle.image.specs.Header.{fields_of, header_of, with_recorded}
 use Rattle.image.proofs.HeaderLaws.{fields_are, good_header, is_block_of, sound}
@@ -37,7 +37,7 @@ use Rattle.stream_laws.proofs.Leaving.{accepted_leaves}
 use Rattle.stream_laws.proofs.Refusals.{refused_keeps}
 use Rattle.stream_laws.proofs.Working.{step_is, room_is}
 
-module _ (s : List ℕ) (st : State) (q : Request) (buf : List ℕ) (good : header_of s ≡ Good (fields_of s)) (place : st.position ≤ (fields_of s).recorded) where
+module _ (s : List ℕ) (st : State) (q : Request) (buf : List ℕ) (good : header_of s ≡ Some (fields_of s)) (place : st.position ≤ (fields_of s).recorded) where
   abbrev h : Header
   h = fields_of s
 

@@ -18,7 +18,7 @@ use Rattle.transfer.specs.Writing.{block_of, mark_of}
 use Rattle.transfer.proofs.ReadLaws.{read_run}
 use Rattle.transfer.proofs.WriteLaws.{lay_run}
 use Rattle.transfer.proofs.StopLaws.{ReadStops, read-stops, LayStops, lay-stops}
-use Rattle.packet_state.specs.declared.state.Ending.TheVariants.{Good, Check}
+use Rattle.packet_state.specs.Answers.{Good, Check}
 use Rattle.packet_state.specs.declared.state.Sense.{Sense}
 use Rattle.packet_state.specs.declared.state.State.{State}
 use Rattle.packet_state.specs.Senses.{early_warning}

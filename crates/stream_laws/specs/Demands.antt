@@ -1,6 +1,7 @@
 -- The demands on the packet drive, one named type each; proofs/ proves them.
 -- Assumes nothing.
-use Rattle.std.specs.Prelude.{ℕ, ◌+◌, ◌*◌, ◌≤◌, ◌<◌, true, false, List, [], ◌∷◌, ◌≡◌, replicate}
+use Rattle.std.specs.Prelude.{ℕ, ◌+◌, ◌*◌, ◌≤◌, ◌<◌, true, false, List, [], ◌∷◌, ◌≡◌, Result, replicate}
+use Rattle.numbers.specs.declared.refusals.Refusal.{Refusal}
 use Rattle.numbers.specs.Member.{is_in}
 use Rattle.numbers.specs.Outcomes.{Settles}
 use Rattle.numbers.specs.Over.{part}
@@ -150,7 +151,7 @@ pub record EndOfDataEom : Type 0 where
 
 -- "Prove that any two outcomes allowed by it coincide": what the promises of `packet`, `fresh` and `changed` allow.
 pub record Settled : Type 0 where
-  pub packet : (s : List ℕ) (st : State) (packet buf : List ℕ) (r r' : Outcome) (image image' buf' buf'' : List ℕ)
+  pub packet : (s : List ℕ) (st : State) (packet buf : List ℕ) (r r' : Result (Outcome State) Refusal) (image image' buf' buf'' : List ℕ)
       → PacketPromise s st packet buf r image buf' → PacketPromise s st packet buf r' image' buf''
       → (r ≡ r') × (image ≡ image') × (buf' ≡ buf'')
   pub fresh : Settles FreshPromise
