@@ -7,3 +7,4 @@ pub mod Records
 pub mod Refusals
 pub mod Replies
 pub mod Speeds
+pub mod Settling
