@@ -1,20 +1,41 @@
--- The ways of the commands' functions.
+-- What the work of the commands needs.
 -- Assumes nothing.
 use mathlib.Core.Path.{◌≡◌}
 use mathlib.Core.Bool.{true}
 use mathlib.Core.List.{List, ◌++◌}
 use Prim.Native.Nat.{ℕ, ◌≤◌}
 use native.Mathlib.Omega.{arith}
+use Rattle.std.specs.Prelude.{Some}
 use Rattle.image.specs.declared.header.Header.{Header}
+use Rattle.image.specs.Header.{header_of}
+use Rattle.image.proofs.HeaderLaws.{sound}
+use Rattle.opcodes.specs.declared.Command.{Command}
+use Rattle.opcodes.specs.declared.Command.TheVariants.{ModeSelect}
 use Rattle.packet_state.specs.declared.state.State.{State}
 use Rattle.packet_parts.specs.declared.requests.Request.{Request}
 use Rattle.packet_parts.specs.Replies.{device_page, mode_header, device_page_bytes}
 use Rattle.packet_parts.specs.Requests.{page_code}
 use Rattle.floppy_parts.specs.declared.tape.Tape.{Tape}
+use Rattle.floppy_parts.specs.Checks.{asked_by}
 use Rattle.floppy_parts.specs.Replies.{floppy_mode, tape_page, tape_mode, mode_bytes}
 use Rattle.floppy_parts.specs.Settings.{good_tape_list}
 use Rattle.floppy_parts.specs.Tape.{product, listed_tape}
 use Rattle.floppy_parts.proofs.SettingLaws.{good_within}
+
+-- ---- what a packet has passed
+
+module _ (s : List ℕ) (h : Header) (good : header_of s ≡ Some h) where
+  pub capacity_bound : h.capacity ≤ 65535
+  capacity_bound = (sound s h good).capacity_most
+
+  pub end_bound : (t : Tape) → product t ≤ h.capacity → product t ≤ 65535
+  end_bound t l = omega (arith, capacity_bound)
+
+pub select_room : (k : Command) (h : Header) (end : ℕ) (q : Request) (n : ℕ) → k ≡ ModeSelect → (asked_by k h end q).needed ≤ n → q.length ≤ n
+unfolding asked_by
+select_room k h end q n e l = rw e at l
+
+pub ruleset work_ways = (capacity_bound, select_room)
 
 -- ---- 1Ah
 
