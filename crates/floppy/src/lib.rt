@@ -19,6 +19,7 @@ use packet_parts::requests::Request;
 use packet_parts::shell::{PacketDevice, answer};
 use packet_state::state::{Outcome, Sense, State, Verdict};
 
+// What the floppy tape device has of its own, for the one order in which every packet device answers.
 pub struct FloppyDevice;
 
 impl PacketDevice for FloppyDevice {
