@@ -3,7 +3,7 @@
 
 pub mod work; // work.rt: one function a command
 
-ghost use Rattle.std.specs.Prelude.{◌≡◌, [], IfSome, Some};
+ghost use Rattle.std.specs.Prelude.{◌≡◌, []};
 ghost use Rattle.packet_parts.specs.Answers.{left};
 ghost use Rattle.floppy.specs.Packet.{floppy_device, mounted, FreshPromise, ChangedPromise, PacketPromise};
 

@@ -1,6 +1,5 @@
 // The work of each command, once nothing before it ended the packet.
-ghost use Rattle.std.specs.Prelude.{◌≡◌, ◌*◌, ◌≤◌, min, length, Some};
-ghost use Rattle.image.specs.Header.{header_of};
+ghost use Rattle.std.specs.Prelude.{◌≡◌, ◌*◌, ◌≤◌, min, length};
 ghost use Rattle.packet_parts.specs.Answers.{done};
 ghost use Rattle.packet_parts.specs.Replies.{reply_ends, replied_into};
 ghost use Rattle.floppy_parts.specs.Checks.{asked_by};
