@@ -1,4 +1,4 @@
--- What the device's verdict and work look at, and the ways of `mount`.
+-- What the device's verdict and work need, and the ways of `mount`.
 -- Assumes nothing.
 use mathlib.Core.Path.{◌≡◌, refl, sym}
 use mathlib.Core.Bool.{true}
@@ -8,7 +8,6 @@ use native.Mathlib.Omega.{arith}
 use Rattle.std.specs.Prelude.{Some, None, Err, Ok}
 use Rattle.numbers.specs.declared.refusals.Refusal.TheVariants.{BrokenImage}
 use Rattle.image.specs.declared.header.Header.{Header}
-use Rattle.image.proofs.HeaderLaws.{sound}
 use Rattle.packet_state.specs.Answers.{Good}
 use Rattle.packet_state.specs.declared.state.State.{State}
 use Rattle.packet_state.specs.declared.state.Verdict.TheVariants.{Works}
@@ -25,6 +24,7 @@ use Rattle.floppy_parts.proofs.FullLaws.{full_of, full_fields, full_header, shor
 use Rattle.floppy_parts.proofs.RuledLaws.{ruled_of}
 use Rattle.floppy.specs.Packet.{floppy_device, mounted}
 use Rattle.floppy.specs.Work.{Passed}
+use Rattle.floppy.proofs.WorkLaws.{capacity_bound}
 
 -- ---- the device
 
@@ -32,15 +32,12 @@ use Rattle.floppy.specs.Work.{Passed}
 pub end_bound : (h : Header) (f : Floppy) → h.capacity ≤ 65535 → keeps_floppy_rules h f ≡ true → product f.tape ≤ 65535
 end_bound h f l e = omega (arith, (ruled_of h f e).within)
 
-module _ (s : List ℕ) (h : Header) (f : Floppy) where
-  pub capacity_bound : Begun floppy_device s h f → h.capacity ≤ 65535
-  capacity_bound b = (sound s h b.header).capacity_most
-
-  pub passed : Begun floppy_device s h f → Passed s h f.shared f.tape
-  passed b = let r = ruled_of h f b.ruled in record { header = b.header; within = r.within; place = r.place; key = r.key }
+pub passed : (s : List ℕ) (h : Header) (f : Floppy) → Begun floppy_device s h f → Passed s h f.shared f.tape
+passed s h f b = let r = ruled_of h f b.ruled in record { header = b.header; within = r.within; place = r.place; key = r.key }
 
 -- the room that a packet needs is there when it comes to its work
-pub has_room : (h : Header) (f : Floppy) (q : Request) (n : ℕ) → found_by floppy_device h f q n ≡ Works → (asked_by q.command h (product f.tape) q).needed ≤ n
+pub has_room : (h : Header) (f : Floppy) (q : Request) (n : ℕ) → found_by floppy_device h f q n ≡ Works
+    → (asked_by q.command h (product f.tape) q).needed ≤ n
 has_room h f q n e = (works_clear _ _ _ _ _ refl e).1
 
 pub ruleset work_ways = (capacity_bound, passed, has_room)
@@ -54,7 +51,7 @@ module _ (s : List ℕ) (f : Floppy) (next : State) where
 
   module _ (h : Header) (e : Some h ≡ full_header_of s) where
     pub reset_bound : h.capacity ≤ 65535
-    reset_bound = (sound s h (full_header s h (sym e))).capacity_most
+    reset_bound = capacity_bound s h (full_header s h (sym e))
 
     pub was_mounted : left f (Ok (joined (ends next Good 0 0) (reset_tape h.capacity))) s [] ≡ mounted s f next
     unfolding mounted

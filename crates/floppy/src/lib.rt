@@ -3,7 +3,7 @@
 
 pub mod work; // work.rt: one function a command
 
-ghost use Rattle.std.specs.Prelude.{◌≡◌, [], IfSome, Some};
+ghost use Rattle.std.specs.Prelude.{◌≡◌, []};
 ghost use Rattle.packet_parts.specs.Answers.{left};
 ghost use Rattle.floppy.specs.Packet.{floppy_device, mounted, FreshPromise, ChangedPromise, PacketPromise};
 
@@ -19,6 +19,7 @@ use packet_parts::requests::Request;
 use packet_parts::shell::{PacketDevice, answer};
 use packet_state::state::{Outcome, Sense, State, Verdict};
 
+// What the floppy tape device has of its own, for the one order in which every packet device answers.
 pub struct FloppyDevice;
 
 impl PacketDevice for FloppyDevice {

@@ -1,6 +1,5 @@
 // The work of each command, once nothing before it ended the packet.
-ghost use Rattle.std.specs.Prelude.{◌≡◌, ◌*◌, ◌≤◌, min, length, Some};
-ghost use Rattle.image.specs.Header.{header_of};
+ghost use Rattle.std.specs.Prelude.{◌≡◌, ◌*◌, ◌≤◌, min, length};
 ghost use Rattle.packet_parts.specs.Answers.{done};
 ghost use Rattle.packet_parts.specs.Replies.{reply_ends, replied_into};
 ghost use Rattle.floppy_parts.specs.Checks.{asked_by};
@@ -40,25 +39,18 @@ fn read_ending(stop: Stop, left: u32) -> Ending
     }
 }
 
-#[tactic(auto, unfolding(crate::specs::Work::read_work, crate::specs::Work::read_ends))]
-fn read(
-    image: &[u8],
-    h: Header,
-    end: u32,
-    state: State,
-    asked: u8,
-    buf: &mut [u8],
-) -> Outcome<State>
-    requires image_value { header_of image.now ≡ Some h }
-    requires end_le_capacity { end ≤ h.capacity }
-    requires position_le_end { state.position ≤ end }
+#[tactic(auto, using(crate::proofs::WorkLaws::end_bound), unfolding(crate::specs::Work::read_work, crate::specs::Work::read_ends))]
+fn read(image: &[u8], h: Header, floppy: Floppy, asked: u8, buf: &mut [u8]) -> Outcome<State>
+    requires passed { Passed image.now h floppy.shared floppy.tape }
     requires size_in_bounds { asked * h.size ≤ length buf.old }
-    ensures { done result image.now buf.new ≡ read_work image.now h end state asked buf.old }
+    ensures { done result image.now buf.new
+        ≡ read_work image.now h (product floppy.tape) floppy.shared asked buf.old }
 {
+    let Floppy { shared, tape } = floppy;
     let n = asked as u32;
-    let moved = read_blocks(image, h, end, buf, n, state.position);
+    let moved = read_blocks(image, h, tape.end(), buf, n, shared.position);
     let ending = read_ending(moved.stop, moved.left);
-    end_read(image, h, state, n, moved, ending)
+    end_read(image, h, shared, n, moved, ending)
 }
 
 #[tactic(auto, unfolding(crate::specs::Work::write_ending))]
@@ -72,25 +64,17 @@ fn write_ending(left: u32) -> Ending
 }
 
 // 02, A1: "a write leaves U".
-#[tactic(auto, unfolding(crate::specs::Work::write_work, crate::specs::Work::write_ends))]
-fn write(
-    image: &mut [u8],
-    h: Header,
-    end: u32,
-    state: State,
-    asked: u8,
-    buf: &[u8],
-) -> Outcome<State>
-    requires image_value { header_of image.old ≡ Some h }
-    requires end_le_capacity { end ≤ h.capacity }
-    requires position_le_end { state.position ≤ end }
+#[tactic(auto, using(crate::proofs::WorkLaws::end_bound), unfolding(crate::specs::Work::write_work, crate::specs::Work::write_ends))]
+fn write(image: &mut [u8], h: Header, floppy: Floppy, asked: u8, buf: &[u8]) -> Outcome<State>
+    requires passed { Passed image.old h floppy.shared floppy.tape }
     requires size_in_bounds { asked * h.size ≤ length buf.now }
-    ensures { done result image.new buf.now ≡ write_work image.old h end state asked buf.now }
+    ensures { done result image.new buf.now
+        ≡ write_work image.old h (product floppy.tape) floppy.shared asked buf.now }
 {
+    let Floppy { shared, tape } = floppy;
     let n = asked as u32;
-    let moved = write_blocks(image, h, end, buf, n, state.position);
-    let ending = write_ending(moved.left);
-    end_moved(state, n, h.size, moved, ending)
+    let moved = write_blocks(image, h, tape.end(), buf, n, shared.position);
+    end_moved(shared, n, h.size, moved, write_ending(moved.left))
 }
 
 // ---- 1Ah
@@ -142,7 +126,8 @@ fn select_tape(h: Header, state: State, list: &[u8]) -> Outcome<State>
 
 #[tactic(auto, unfolding(crate::specs::Work::select_work))]
 fn mode_select(h: Header, state: State, asked: u8, list: &[u8]) -> Outcome<State>
-    requires { (h.capacity ≤ 65535) × (asked ≤ length list.now) }
+    requires capacity_bound { h.capacity ≤ 65535 }
+    requires asked_in_bounds { asked ≤ length list.now }
     ensures { result ≡ select_work h state asked list.now }
 {
     match asked as usize {
@@ -154,7 +139,7 @@ fn mode_select(h: Header, state: State, asked: u8, list: &[u8]) -> Outcome<State
 
 // ---- by command
 
-#[tactic(auto, unfolding(floppy_parts::specs::Checks::asked_by, crate::specs::Work::work_of))]
+#[tactic(auto, using(crate::proofs::WorkLaws::work_ways), unfolding(floppy_parts::specs::Checks::asked_by, crate::specs::Work::work_of))]
 pub fn work(
     image: &mut [u8],
     h: Header,
@@ -168,11 +153,10 @@ pub fn work(
         ≡ work_of q.command image.old h floppy.shared floppy.tape q buf.old }
 {
     let state = floppy.shared;
-    let last = floppy.tape.end();
     match q.command {
         Command::RequestSense => request_sense(state, q.length, buf),
-        Command::Read => read(image, h, last, state, q.length, buf),
-        Command::Write => write(image, h, last, state, q.length, buf),
+        Command::Read => read(image, h, floppy, q.length, buf),
+        Command::Write => write(image, h, floppy, q.length, buf),
         Command::Inquiry => inquiry(UNASSIGNED, state, q.length, buf),
         Command::ModeSelect => mode_select(h, state, q.length, buf),
         Command::ModeSense => mode_sense(h, floppy, q, buf),

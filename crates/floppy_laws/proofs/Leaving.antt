@@ -1,6 +1,6 @@
 -- What an accepted packet leaves: one case split over the commands.
 -- Assumes nothing.
-use Rattle.std.specs.Prelude.{if◌then◌else◌}
+use Rattle.std.specs.Prelude.{Some, if◌then◌else◌}
 use Prim.Native.Nat.{ℕ, ◌+◌, ◌*◌, ◌-◌, ◌≤◌, ◌<◌, min}
 use native.Mathlib.Omega.{arith}
 use mathlib.Core.Bool.{Bool, true, false}
@@ -14,7 +14,6 @@ use Rattle.numbers.specs.Member.{is_in}
 use Rattle.numbers.proofs.Cases.{either, never}
 use Rattle.numbers.proofs.OverLaws.{over_length, over_above}
 use Rattle.image.specs.declared.header.Header.{Header}
-use Rattle.image.specs.declared.header.Judged.TheVariants.{Good as GoodHeader}
 use Rattle.image.specs.Header.{fields_of, header_of}
 use Rattle.image.specs.Sameness.{SameElement, Outside}
 use Rattle.image.proofs.HeaderLaws.{good_header}
@@ -29,8 +28,7 @@ use Rattle.transfer.proofs.ReadLaws.{read_run, read_left, read-place, read_lengt
 use Rattle.transfer.proofs.WriteLaws.{lay_run, lay-left, lay-passed}
 use Rattle.transfer.proofs.LaidLaws.{off_kinds, off_blocks, blocks-laid}
 use Rattle.transfer.proofs.StopLaws.{lay-within}
-use Rattle.packet_state.specs.declared.state.Ending.{Ending}
-use Rattle.packet_state.specs.declared.state.Ending.TheVariants.{Good, Check}
+use Rattle.packet_state.specs.Answers.{Ending, Good, Check}
 use Rattle.packet_state.specs.declared.state.Outcome.{Outcome}
 use Rattle.packet_state.specs.declared.state.Sense.{Sense}
 use Rattle.packet_state.specs.declared.state.State.{State}
@@ -67,7 +65,7 @@ use Rattle.floppy_laws.proofs.Selecting.{Selected, speed-set, speed-wrong, tape-
 
 -- what a packet under the command c leaves
 pub record Leaves (s : List ℕ) (f : Floppy) (c : Command) (buf : List ℕ) (x : Left Floppy) : Type 0 where
-  pub header : header_of x.image ≡ GoodHeader (fields_of s)
+  pub header : header_of x.image ≡ Some (fields_of s)
   pub ruled : Ruled (fields_of s) x.state
   pub buf_length : length x.buf ≡ length buf
   pub buf_beyond : (i : ℕ) → bytes_of x ≤ i → get_or x.buf i 0 ≡ get_or buf i 0
@@ -115,7 +113,7 @@ module _ (s : List ℕ) (f : Floppy) (q : Request) (buf : List ℕ) (full : is_f
   abbrev n : ℕ
   n = blocks_asked q
 
-  good : header_of s ≡ GoodHeader h
+  good : header_of s ≡ Some h
   good = good_header s (full_image s full).0
 
   kept_rules : Ruled h f
@@ -123,7 +121,7 @@ module _ (s : List ℕ) (f : Floppy) (q : Request) (buf : List ℕ) (full : is_f
 
   -- ---- commands that keep the image
 
-  stays : (c : Command) (out : Outcome) (tape : Tape) (new : List ℕ) → Ruled h (floppy_of out.state tape) → length new ≡ length buf
+  stays : (c : Command) (out : Outcome State) (tape : Tape) (new : List ℕ) → Ruled h (floppy_of out.state tape) → length new ≡ length buf
       → ((i : ℕ) → out.answer.bytes ≤ i → get_or new i 0 ≡ get_or buf i 0) → (gives c ≡ false → new ≡ buf) → Leaves s f c buf (beside (done out s new) tape)
   stays c out tape new r l b g =
       record {
@@ -178,7 +176,7 @@ module _ (s : List ℕ) (f : Floppy) (q : Request) (buf : List ℕ) (full : is_f
       by false true = refl
       by false false = refl
 
-  selects : {out : Outcome} {tape : Tape} → Selected h st t buf q.length out tape → Leaves s f ModeSelect buf (beside (done out s buf) tape)
+  selects : {out : Outcome State} {tape : Tape} → Selected h st t buf q.length out tape → Leaves s f ModeSelect buf (beside (done out s buf) tape)
   selects (speed-set e g) =
       let r = kept_rules in
       quiet ModeSelect (with_speed st (list_speed buf)) t Good full_list r.within r.place (good_speed buf g) (omega arith)

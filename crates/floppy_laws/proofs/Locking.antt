@@ -12,14 +12,13 @@ use Rattle.opcodes.specs.declared.Command.TheVariants.{ModeSelect, ModeSense, Lo
 use Rattle.packet_state.specs.declared.state.State.{State}
 use Rattle.packet_state.specs.States.{changed_state}
 use Rattle.packet_parts.specs.declared.requests.Request.{Request}
-use Rattle.packet_parts.specs.Answers.{ends}
+use Rattle.packet_parts.specs.Answers.{Left, ends}
 use Rattle.packet_parts.specs.Requests.{load_bit}
 use Rattle.packet_work.specs.Settings.{load_work, lock_work}
 use Rattle.packet_laws.proofs.Locking.{LocksDoor}
 use Rattle.packet_laws.proofs.Locking as any-device
 use Rattle.packet_laws.proofs.Records.{not_clear}
 use Rattle.floppy_parts.specs.declared.tape.Floppy.{Floppy}
-use Rattle.floppy_parts.specs.declared.tape.FloppyOutcome.{FloppyOutcome}
 use Rattle.floppy_parts.specs.Checks.{asked_by}
 use Rattle.floppy_parts.specs.Headers.{is_full}
 use Rattle.floppy_parts.specs.Settings.{loaded_tape, tape_after}
@@ -71,7 +70,7 @@ locked_stays = any-device.locked_stays floppy_device working locks_door
 -- P holds of what a change leaves of the shared record where it holds of the record as it was and as 01 changes it
 pub changed_by : (P : State → Type 0) (s : List ℕ) (f : Floppy) → P f.shared → P (changed_state f.shared) → P (changed_floppy s f).state.shared
 unfolding mounted ends
-changed_by P s f was now = either (λ (x : FloppyOutcome). P x.state.shared) (not (is_full s)) _ _ (λ e. was) (λ e. now)
+changed_by P s f was now = either (λ (x : Left Floppy). P x.state.shared) (not (is_full s)) _ _ (λ e. was) (λ e. now)
 
 pub lock_starts : LockStarts
 unfolding mounted ends

@@ -29,7 +29,7 @@ use Rattle.floppy_laws.proofs.Refusals.{working}
 use Rattle.floppy_laws.proofs.Selecting.{Selected, speed-set, speed-wrong, tape-set, tape-wrong, nothing-set, selected}
 
 module _ (s : List ℕ) (h : Header) (st : State) (t : Tape) (q : Request) (buf : List ℕ) where
-  list_unmarked : {out : Outcome} {tape : Tape} → Selected h st t buf q.length out tape → out.answer.marked ≡ 0
+  list_unmarked : {out : Outcome State} {tape : Tape} → Selected h st t buf q.length out tape → out.answer.marked ≡ 0
   list_unmarked (speed-set e g) = ends_unmarked _ _ _ _
   list_unmarked (speed-wrong e) = ends_unmarked _ _ _ _
   list_unmarked (tape-set e x) = ends_unmarked _ _ _ _

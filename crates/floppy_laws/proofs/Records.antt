@@ -23,7 +23,7 @@ use Rattle.floppy.specs.Work.{read_ends, read_work, write_ends, write_work, work
 use Rattle.floppy_laws.proofs.Selecting.{Selected, speed-set, speed-wrong, tape-set, tape-wrong, nothing-set, selected}
 
 module _ (s : List ℕ) (h : Header) (st : State) (t : Tape) (q : Request) (buf : List ℕ) where
-  list_keeps : {out : Outcome} {tape : Tape} → Selected h st t buf q.length out tape → Keeps ModeSelect q buf st out.state
+  list_keeps : {out : Outcome State} {tape : Tape} → Selected h st t buf q.length out tape → Keeps ModeSelect q buf st out.state
   list_keeps (speed-set e g) = ends_keeps _ _ _ _ (record { speed = λ n. absurd (n refl e g); loaded = λ n l. l; locked = λ n. refl })
   list_keeps (speed-wrong e) = moved _ _ _ _ refl refl refl
   list_keeps (tape-set e x) = moved _ _ _ _ refl refl refl

@@ -15,7 +15,7 @@ use Rattle.image.specs.Header.{fields_of}
 use Rattle.opcodes.specs.declared.Command.{Command}
 use Rattle.opcodes.specs.declared.Command.TheVariants.{Unknown, TestUnitReady, Rewind, RequestSense, Read, Write, WriteFilemarks, Space, Inquiry}
 use Rattle.opcodes.specs.declared.Command.TheVariants.{ModeSelect, ModeSense, LoadUnload, Locate, ReadPosition, PreventAllow}
-use Rattle.packet_state.specs.declared.state.Ending.TheVariants.{Good, Check}
+use Rattle.packet_state.specs.Answers.{Good, Check}
 use Rattle.packet_state.specs.declared.state.Outcome.{Outcome}
 use Rattle.packet_state.specs.declared.state.State.{State}
 use Rattle.packet_state.specs.Senses.{wrong_list}
@@ -59,7 +59,7 @@ module _ (h : Header) (list : List ℕ) where
 -- ---- a list of any length: what it leaves of the record, and the tape parameters
 
 module _ (h : Header) (st : State) (t : Tape) (list : List ℕ) (asked : ℕ) where
-  pub data Selected : Outcome → Tape → Type 0 where
+  pub data Selected : Outcome State → Tape → Type 0 where
     speed-set : asked ≡ full_list → good_list list ≡ true → Selected (ends (with_speed st (list_speed list)) Good 0 full_list) t
     speed-wrong : asked ≡ full_list → Selected (ends st (Check wrong_list) 0 0) t
     tape-set : asked ≡ tape_list → TakesList h list
@@ -86,7 +86,7 @@ module _ (h : Header) (st : State) (t : Tape) (list : List ℕ) (asked : ℕ) wh
   selected = selected_by _ _ _ _ refl refl refl refl
 
   module _ (e : asked ≡ tape_list) where
-    taken_by : {out : Outcome} {t' : Tape} → Selected out t' → (out.answer.status ≡ good_status) ↔ TakesList h list
+    taken_by : {out : Outcome State} {t' : Tape} → Selected out t' → (out.answer.status ≡ good_status) ↔ TakesList h list
     unfolding ends
     taken_by (speed-set q g) = absurd (omega arith)
     taken_by (speed-wrong q) = absurd (omega arith)
@@ -94,7 +94,7 @@ module _ (h : Header) (st : State) (t : Tape) (list : List ℕ) (asked : ℕ) wh
     taken_by (tape-wrong q x) = ((λ z. absurd (omega arith)), (λ z. absurd (x z)))
     taken_by (nothing-set q) = absurd (q e)
 
-    set_by : {out : Outcome} {t' : Tape} → Selected out t' → TakesList h list
+    set_by : {out : Outcome State} {t' : Tape} → Selected out t' → TakesList h list
         → (t' ≡ listed_tape list) × (out.state.position ≡ place_under (product (listed_tape list)) st.position)
     unfolding ends
     set_by (speed-set q g) x = absurd (omega arith)
@@ -103,7 +103,7 @@ module _ (h : Header) (st : State) (t : Tape) (list : List ℕ) (asked : ℕ) wh
     set_by (tape-wrong q y) x = absurd (y x)
     set_by (nothing-set q) x = absurd (q e)
 
-    left_by : {out : Outcome} {t' : Tape} → Selected out t' → (TakesList h list → ⊥) → floppy_of out.state t' ≡ floppy_of (with_sense st wrong_list) t
+    left_by : {out : Outcome State} {t' : Tape} → Selected out t' → (TakesList h list → ⊥) → floppy_of out.state t' ≡ floppy_of (with_sense st wrong_list) t
     unfolding ends
     left_by (speed-set q g) x = absurd (omega arith)
     left_by (speed-wrong q) x = refl

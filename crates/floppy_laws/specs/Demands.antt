@@ -1,6 +1,7 @@
 -- The promises of the floppy tape device, one named type each; proofs/ proves them.
 -- Assumes nothing.
-use Rattle.std.specs.Prelude.{ℕ, ◌+◌, ◌*◌, ◌≤◌, ◌<◌, true, false, List, ◌∷◌, ◌↔◌, ◌≡◌, get_or, replicate}
+use Rattle.std.specs.Prelude.{ℕ, ◌+◌, ◌*◌, ◌≤◌, ◌<◌, true, false, List, ◌∷◌, ◌↔◌, ◌≡◌, get_or, Result, replicate}
+use Rattle.numbers.specs.declared.refusals.Refusal.{Refusal}
 use Rattle.numbers.specs.Member.{is_in}
 use Rattle.numbers.specs.Outcomes.{Settles}
 use Rattle.numbers.specs.Over.{part}
@@ -9,6 +10,7 @@ use Rattle.image.specs.declared.elements.Kind.TheVariants.{Data, Marked}
 use Rattle.image.specs.Header.{fields_of, header_length}
 use Rattle.opcodes.specs.declared.Command.TheVariants.{Read, Write, ModeSelect, LoadUnload, Locate}
 use Rattle.packet_state.specs.declared.state.Attention.TheVariants.{Nothing}
+use Rattle.packet_state.specs.declared.state.Outcome.{Outcome}
 use Rattle.packet_state.specs.States.{speeds, with_locked, with_speed, with_sense}
 use Rattle.packet_state.specs.Senses.{invalid_field, wrong_list}
 use Rattle.packet_parts.specs.Answers.{good_status}
@@ -19,7 +21,6 @@ use Rattle.packet_laws.specs.Promises.{BeginsExactly as BeginsExactlyOf, SpeedFo
 use Rattle.packet_laws.specs.Promises.{LockFollows as LockFollowsOf, LockedStays as LockedStaysOf}
 use Rattle.packet_laws.specs.Words.{number_of, status_of, blocks_of, bytes_of, residue_of}
 use Rattle.floppy_parts.specs.declared.tape.Floppy.{Floppy}
-use Rattle.floppy_parts.specs.declared.tape.FloppyOutcome.{FloppyOutcome}
 use Rattle.floppy_parts.specs.Headers.{is_full}
 use Rattle.floppy_parts.specs.Replies.{tape_list}
 use Rattle.floppy_parts.specs.Requests.{floppy_request, blocks_asked, block_number}
@@ -202,7 +203,7 @@ pub record SelectExactly : Type 0 where
 
 -- "Prove that any two outcomes allowed by it coincide": what the promises of `packet`, `fresh` and `changed` allow.
 pub record Settled : Type 0 where
-  pub packet : (s : List ℕ) (f : Floppy) (packet buf : List ℕ) (r r' : FloppyOutcome) (image image' buf' buf'' : List ℕ)
+  pub packet : (s : List ℕ) (f : Floppy) (packet buf : List ℕ) (r r' : Result (Outcome Floppy) Refusal) (image image' buf' buf'' : List ℕ)
       → PacketPromise s f packet buf r image buf' → PacketPromise s f packet buf r' image' buf''
       → (r ≡ r') × (image ≡ image') × (buf' ≡ buf'')
   pub fresh : (s : List ℕ) (f : Floppy) → Settles (FreshPromise s f)

@@ -1,4 +1,3 @@
-pub mod AskedLaws
 pub mod FullLaws
 pub mod RuledLaws
 pub mod SettingLaws
