@@ -3,45 +3,39 @@
 
 ghost use Rattle.std.specs.Prelude.{◌≡◌};
 ghost use Rattle.bench.specs.Bytes.{byte_call};
+ghost use Rattle.pulse.specs.Calls.{told};
 
-use pulse::{Drive, Step};
+use numbers::refusals::Refusal;
+use pulse::Drive;
 use std::io;
 use std::io::Read;
 
 const CHUNK: usize = 4096;
 
-// A chunk that was read and sent: whether there may be more, and the drive after it.
-#[derive(Drop)]
-struct Chunk {
-    more: bool,
-    drive: Drive,
-}
-
 fn write_line(rt: &impl Print, train: u8, level: bool) -> io::Result<()> {
-    rt.print(train)?;
-    if level {
-        return rt.println(" 1");
-    }
-    rt.println(" 0")
+    println!(rt; "{} {}", train, level as u8)
 }
 
-fn take_byte(drive: Drive, byte: u8) -> Step
-    ensures { result ≡ byte_call drive byte }
+#[tactic(auto, unfolding(crate::specs::Bytes::byte_call))]
+fn take_byte(drive: Drive, byte: u8) -> Result<Drive, Refusal>
+    ensures { told drive result ≡ byte_call drive byte }
 {
-    let n = byte as u16;
-    let tick = n == 0;
-    if tick {
-        return drive.tick();
+    match byte {
+        0 => drive.tick(),
+        _ => drive.train(byte as u16),
     }
-    drive.train(n)
 }
 
+// A refused call would tell level 0 and leave the drive as it is.
 fn send(rt: &impl Print, drive: Drive, byte: u8) -> io::Result<Drive> {
-    let step = take_byte(drive, byte);
+    let (level, next) = match take_byte(drive, byte) {
+        Ok(next) => (next.level, next),
+        Err(_) => (false, drive),
+    };
     if byte != 0 {
-        write_line(rt, byte, step.level)?;
+        write_line(rt, byte, level)?;
     }
-    Ok(step.drive)
+    Ok(next)
 }
 
 fn send_all(rt: &impl Print, drive: Drive, bytes: &[u8]) -> io::Result<Drive> {
@@ -52,31 +46,24 @@ fn send_all(rt: &impl Print, drive: Drive, bytes: &[u8]) -> io::Result<Drive> {
     Ok(now)
 }
 
-fn send_chunk(rt: &impl Print, input: &mut impl Read, drive: Drive) -> io::Result<Chunk> {
+// The drive after a chunk that was read and sent; none where the input has ended.
+fn send_chunk(rt: &impl Print, input: &mut impl Read, drive: Drive) -> io::Result<Option<Drive>> {
     let mut bytes = [0u8; CHUNK];
-    let n = match input.read(&mut bytes) {
-        Ok(n) => n,
-        Err(_) => 0, // an input that fails has ended
-    };
+    let n = input.read(&mut bytes).unwrap_or(0); // an input that fails has ended
     if n == 0 {
-        return Ok(Chunk { more: false, drive });
+        return Ok(None);
     }
-    let next = send_all(rt, drive, &bytes[..n])?;
-    Ok(Chunk {
-        more: true,
-        drive: next,
-    })
+    Ok(Some(send_all(rt, drive, &bytes[..n])?))
 }
 
 // A proved loop has to end, and nothing says that the input does: the chunks are counted up to a number that no run reaches.
 fn send_input(rt: &impl Print, input: &mut impl Read, drive: Drive) -> io::Result<()> {
     let mut now = drive;
     for _ in 0..u64::MAX {
-        let chunk = send_chunk(rt, input, now)?;
-        if !chunk.more {
+        let Some(next) = send_chunk(rt, input, now)? else {
             break;
-        }
-        now = chunk.drive;
+        };
+        now = next;
     }
     Ok(())
 }

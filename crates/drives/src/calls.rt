@@ -1,5 +1,5 @@
 // One call sent, printed with what it is answered; the line is left open.
-use lines::show;
+use lines::show::Hex;
 use numbers::counts::count4;
 use std::io;
 use tapecard::pulse_calls::{
@@ -15,108 +15,95 @@ pub struct Drive {
     pub state: [u8; 32],
 }
 
-pub fn fresh(vendor: u16, rom: u8) -> Drive {
-    let mut state = [0u8; 32];
-    tapecard_pulse_power_on(&mut state, vendor, rom);
-    Drive { state: state }
-}
-
-fn show_level(rt: &impl Print, answer: [u8; 8]) -> io::Result<()> {
-    show::small(rt, b" ", answer[1])
-}
-
-fn show_answer(rt: &impl Print, answer: [u8; 8]) -> io::Result<()> {
-    show::small(rt, b": number ", answer[0])?;
-    show::small(rt, b" level ", answer[1])
-}
-
-fn show_kept(rt: &impl Print, before: Drive, after: [u8; 32]) -> io::Result<()> {
-    let kept = before.state == after;
-    show::either(rt, kept, b" record unchanged", b" CHANGED")
-}
-
-// Number and level, and of a refused call whether it left the record as it was; then the drive goes on with what the call left.
-fn answered(rt: &impl Print, answer: [u8; 8], before: Drive, after: [u8; 32]) -> io::Result<Drive> {
-    show_answer(rt, answer)?;
-    if answer[0] != 0 {
-        show_kept(rt, before, after)?;
+impl Drive {
+    pub fn power_on(vendor: u16, rom: u8) -> Drive {
+        let mut state = [0u8; 32];
+        tapecard_pulse_power_on(&mut state, vendor, rom);
+        Drive { state }
     }
-    Ok(Drive { state: after })
-}
 
-pub fn power_on(rt: &impl Print, vendor: u16, rom: u8) -> io::Result<Drive> {
-    show::number(rt, b" power-on vendor ", vendor as u32)?;
-    show::small(rt, b" ROM ", rom)?;
-    Ok(fresh(vendor, rom))
-}
-
-// A train, and after it so many 2s, of which the levels alone are printed.
-pub fn train(rt: &impl Print, drive: Drive, pulses: u16, twos: u8) -> io::Result<Drive> {
-    let mut state = drive.state;
-    let mut answer = [0u8; 8];
-    tapecard_pulse_train(&mut state, pulses, &mut answer);
-    show::number(rt, b" train ", pulses as u32)?;
-    let asked = answered(rt, answer, drive, state)?;
-    if twos > 0 {
-        show::text(rt, b", then")?;
+    // A power-on, which has no answer.
+    pub fn restart(&mut self, rt: &impl Print, vendor: u16, rom: u8) -> io::Result<()> {
+        *self = Drive::power_on(vendor, rom);
+        print!(rt; " power-on vendor {vendor} ROM {rom}")
     }
-    next_bits(rt, asked, twos)
-}
 
-fn next_bits(rt: &impl Print, drive: Drive, twos: u8) -> io::Result<Drive> {
-    let mut now = drive;
-    for _ in 0..twos {
-        now = next_bit(rt, now)?;
+    // What the call answers: number and level are printed, and of a refused call whether it left the record as it was.
+    fn answered<F: FnOnce(&mut [u8; 32], &mut [u8; 8])>(
+        &mut self,
+        rt: &impl Print,
+        call: F,
+    ) -> io::Result<[u8; 8]>
+        requires { F.IsAlwaysCallable call }
+    {
+        let before = self.state;
+        let mut answer = [0u8; 8];
+        call(&mut self.state, &mut answer);
+        let (number, level) = (answer[0], answer[1]);
+        print!(rt; ": number {number} level {level}")?;
+        if number == 0 {
+            return Ok(answer);
+        }
+        if before == self.state {
+            rt.print(" record unchanged")?;
+        } else {
+            rt.print(" CHANGED")?;
+        }
+        Ok(answer)
     }
-    Ok(now)
-}
 
-fn next_bit(rt: &impl Print, drive: Drive) -> io::Result<Drive> {
-    let mut state = drive.state;
-    let mut answer = [0u8; 8];
-    tapecard_pulse_train(&mut state, NEXT_BIT, &mut answer);
-    show_level(rt, answer)?;
-    Ok(Drive { state })
-}
+    // A train, and after it so many 2s, of which the levels alone are printed.
+    pub fn train(&mut self, rt: &impl Print, pulses: u16, twos: u8) -> io::Result<()> {
+        print!(rt; " train {pulses}")?;
+        self.answered(
+            rt,
+            |state, answer| tapecard_pulse_train(state, pulses, answer),
+        )?;
+        if twos > 0 {
+            rt.print(", then")?;
+        }
+        for _ in 0..twos {
+            self.next_bit(rt)?;
+        }
+        Ok(())
+    }
 
-pub fn tick(rt: &impl Print, drive: Drive) -> io::Result<Drive> {
-    let mut state = drive.state;
-    let mut answer = [0u8; 8];
-    tapecard_pulse_tick(&mut state, &mut answer);
-    show::text(rt, b" tick")?;
-    answered(rt, answer, drive, state)
-}
+    fn next_bit(&mut self, rt: &impl Print) -> io::Result<()> {
+        let mut answer = [0u8; 8];
+        tapecard_pulse_train(&mut self.state, NEXT_BIT, &mut answer);
+        let level = answer[1];
+        print!(rt; " {level}")
+    }
 
-fn show_insertion(rt: &impl Print, cartridge: [u8; 8]) -> io::Result<()> {
-    show::list(rt, b" insertion", &cartridge)
-}
+    pub fn tick(&mut self, rt: &impl Print) -> io::Result<()> {
+        rt.print(" tick")?;
+        self.answered(rt, tapecard_pulse_tick)?;
+        Ok(())
+    }
 
-pub fn insert(rt: &impl Print, drive: Drive, cartridge: [u8; 8]) -> io::Result<Drive> {
-    show_insertion(rt, cartridge)?;
-    let mut state = drive.state;
-    let mut answer = [0u8; 8];
-    tapecard_pulse_insert(&mut state, &cartridge, &mut answer);
-    answered(rt, answer, drive, state)
-}
+    pub fn insert(&mut self, rt: &impl Print, cartridge: [u8; 8]) -> io::Result<()> {
+        let described = Hex(&cartridge);
+        print!(rt; " insertion{described}")?;
+        self.answered(
+            rt,
+            |state, answer| tapecard_pulse_insert(state, &cartridge, answer),
+        )?;
+        Ok(())
+    }
 
-pub fn remove(rt: &impl Print, drive: Drive) -> io::Result<Drive> {
-    let mut state = drive.state;
-    let mut answer = [0u8; 8];
-    tapecard_pulse_remove(&mut state, &mut answer);
-    show::text(rt, b" removal")?;
-    answered(rt, answer, drive, state)
-}
+    pub fn remove(&mut self, rt: &impl Print) -> io::Result<()> {
+        rt.print(" removal")?;
+        self.answered(rt, tapecard_pulse_remove)?;
+        Ok(())
+    }
 
-fn show_ticks(rt: &impl Print, answer: [u8; 8]) -> io::Result<()> {
-    show::number(rt, b" ticks ", count4(&answer, 4))
-}
-
-pub fn wait(rt: &impl Print, drive: Drive, limit: u32) -> io::Result<Drive> {
-    let mut state = drive.state;
-    let mut answer = [0u8; 8];
-    tapecard_pulse_wait(&mut state, limit, &mut answer);
-    show::number(rt, b" wait ", limit)?;
-    let next = answered(rt, answer, drive, state)?;
-    show_ticks(rt, answer)?;
-    Ok(next)
+    pub fn wait(&mut self, rt: &impl Print, limit: u32) -> io::Result<()> {
+        print!(rt; " wait {limit}")?;
+        let answer = self.answered(
+            rt,
+            |state, answer| tapecard_pulse_wait(state, limit, answer),
+        )?;
+        let ticks = count4(&answer, 4);
+        print!(rt; " ticks {ticks}")
+    }
 }

@@ -1,59 +1,51 @@
 // The record: its parts by name, or its bytes.
 use crate::calls::Drive;
-use lines::show;
+use lines::show::Hex;
 use numbers::counts::count2;
+use numbers::flags::is_set;
 use std::io;
 
-fn show_motion(rt: &impl Print, motion: u8) -> io::Result<()> {
+fn motion_name(motion: u8) -> &'static str {
     match motion {
-        1 => show::text(rt, b" run"),
-        2 => show::text(rt, b" load"),
-        _ => show::text(rt, b" still"),
+        1 => " run",
+        2 => " load",
+        _ => " still",
     }
 }
 
+// The names of the marks that are set, lowest bit first.
 fn show_marks(rt: &impl Print, marks: u8) -> io::Result<()> {
-    show::flag(rt, marks, 1, b" cartridge")?;
-    show::flag(rt, marks, 2, b" referenced")?;
-    show::flag(rt, marks, 4, b" new")?;
-    show::flag(rt, marks, 8, b" asked")?;
-    show::flag(rt, marks, 16, b" owed")
+    let names = [
+        (1, " cartridge"),
+        (2, " referenced"),
+        (4, " new"),
+        (8, " asked"),
+        (16, " owed"),
+    ];
+    for (weight, name) in names {
+        if is_set(marks, weight) {
+            rt.print(name)?;
+        }
+    }
+    Ok(())
 }
 
-fn show_place(rt: &impl Print, state: [u8; 32]) -> io::Result<()> {
-    show::number(rt, b" S ", count2(&state, 8) as u32)?;
-    show::number(rt, b" target ", count2(&state, 10) as u32)
-}
+impl Drive {
+    // Numbers, then motion and marks by name. The items left of a report and the code of arguments are 0 where none is open or waited for.
+    pub fn show_parts(&self, rt: &impl Print) -> io::Result<()> {
+        let state = self.state;
+        let (place, target) = (count2(&state, 8), count2(&state, 10));
+        let (track, rate) = (state[12], state[13]);
+        let (error, command) = (state[14], state[15]);
+        let (report, argument) = (state[17], state[20]);
+        print!(rt; " S {place} target {target} track {track} rate {rate}")?;
+        print!(rt; " error {error} command {command} report {report} argument {argument}")?;
+        rt.print(motion_name(state[1]))?;
+        show_marks(rt, state[0])
+    }
 
-fn show_settings(rt: &impl Print, state: [u8; 32]) -> io::Result<()> {
-    show::small(rt, b" track ", state[12])?;
-    show::small(rt, b" rate ", state[13])
-}
-
-fn show_error(rt: &impl Print, state: [u8; 32]) -> io::Result<()> {
-    show::small(rt, b" error ", state[14])?;
-    show::small(rt, b" command ", state[15])
-}
-
-fn show_pending(rt: &impl Print, state: [u8; 32]) -> io::Result<()> {
-    show::small(rt, b" report ", state[17])?;
-    show::small(rt, b" argument ", state[20])
-}
-
-// Numbers, then motion and marks by name. The items left of a report and the code of arguments are 0 where none is open or waited for.
-pub fn show_parts(rt: &impl Print, drive: Drive) -> io::Result<Drive> {
-    let state = drive.state;
-    show_place(rt, state)?;
-    show_settings(rt, state)?;
-    show_error(rt, state)?;
-    show_pending(rt, state)?;
-    show_motion(rt, state[1])?;
-    show_marks(rt, state[0])?;
-    Ok(drive)
-}
-
-pub fn show_bytes(rt: &impl Print, drive: Drive) -> io::Result<Drive> {
-    let state = drive.state;
-    show::list(rt, b" record", &state)?;
-    Ok(drive)
+    pub fn show_record(&self, rt: &impl Print) -> io::Result<()> {
+        let record = Hex(&self.state);
+        print!(rt; " record{record}")
+    }
 }

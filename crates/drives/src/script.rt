@@ -10,82 +10,57 @@
 //   p, x         prints the parts of the record, or its bytes
 // Any other line is answered as one that the script may not have.
 use crate::calls::Drive;
-use crate::{calls, parts};
-use lines::line::{
-    Bytes, bytes_of, first_eight, is_whole, letter_of, place_of, store, stores_within,
-};
+use lines::line::bytes_of;
 use lines::show;
+use numbers::counts::pair;
 use std::io;
 
-const RECORD: u16 = 32;
+// What the record gets from a place on has to lie within it.
+fn store(rt: &impl Print, drive: &mut Drive, place: u16, values: &[u8]) -> io::Result<()> {
+    let from = place as usize;
+    let Some(part) = drive.state.get_mut(from..from + values.len()) else {
+        return rt.print("beyond the record");
+    };
+    part.copy_from_slice(values);
+    drive.show_record(rt)
+}
 
-// Whether a letter has as many bytes as it takes.
-fn has_its_bytes(letter: u8, count: usize) -> bool {
-    match letter {
-        b'k' | b'r' | b'p' | b'x' => count == 0,
-        b't' => (count == 2) | (count == 3),
-        b'w' => count == 2,
-        b'o' => count == 3,
-        b'i' => count == 8,
-        b's' => count >= 3,
-        _ => false,
+fn no_line(rt: &impl Print, line: &[u8]) -> io::Result<()> {
+    rt.print("no line of a script: ")?;
+    rt.write_all(line)
+}
+
+// The letter says what is called, and the bytes are to be all that is after it.
+fn call(rt: &impl Print, drive: &mut Drive, line: &[u8]) -> io::Result<()> {
+    let Some((letter, spelled)) = line.split_first() else {
+        return no_line(rt, line);
+    };
+    let read = bytes_of(spelled);
+    let bytes = read.as_slice();
+    if spelled.len() != 3 * bytes.len() {
+        return no_line(rt, line);
+    }
+    match (*letter, bytes) {
+        (b'o', [high, low, rom]) => drive.restart(rt, pair(*high, *low), *rom),
+        (b't', [high, low]) => drive.train(rt, pair(*high, *low), 0),
+        (b't', [high, low, twos]) => drive.train(rt, pair(*high, *low), *twos),
+        (b'k', []) => drive.tick(rt),
+        (b'i', [a, b, c, d, e, f, g, h]) => drive.insert(rt, [*a, *b, *c, *d, *e, *f, *g, *h]),
+        (b'r', []) => drive.remove(rt),
+        (b'w', [high, low]) => drive.wait(rt, u32::from(pair(*high, *low))),
+        (b's', [high, low, values @ ..]) if !values.is_empty() => {
+            store(rt, drive, pair(*high, *low), values)
+        }
+        (b'p', []) => drive.show_parts(rt),
+        (b'x', []) => drive.show_record(rt),
+        _ => no_line(rt, line),
     }
 }
 
-fn inserted(rt: &impl Print, drive: Drive, bytes: Bytes) -> io::Result<Drive> {
-    calls::insert(rt, drive, first_eight(bytes))
-}
-
-fn trained(rt: &impl Print, drive: Drive, bytes: Bytes) -> io::Result<Drive> {
-    let v = bytes.values;
-    calls::train(rt, drive, place_of(bytes), v[2])
-}
-
-fn powered(rt: &impl Print, bytes: Bytes) -> io::Result<Drive> {
-    let v = bytes.values;
-    calls::power_on(rt, place_of(bytes), v[2])
-}
-
-fn waited(rt: &impl Print, drive: Drive, bytes: Bytes) -> io::Result<Drive> {
-    calls::wait(rt, drive, place_of(bytes) as u32)
-}
-
-// The bytes stand for a place (two) and what the record gets from there on, all within its 32.
-fn stored(rt: &impl Print, drive: Drive, bytes: Bytes) -> io::Result<Drive> {
-    if !stores_within(bytes, RECORD) {
-        show::text(rt, b"beyond the record")?;
-        return Ok(drive);
-    }
-    let mut state = drive.state;
-    store(&mut state, bytes);
-    parts::show_bytes(rt, Drive { state })
-}
-
-fn called(rt: &impl Print, drive: Drive, letter: u8, bytes: Bytes) -> io::Result<Drive> {
-    match letter {
-        b'o' => powered(rt, bytes),
-        b't' => trained(rt, drive, bytes),
-        b'k' => calls::tick(rt, drive),
-        b'i' => inserted(rt, drive, bytes),
-        b'r' => calls::remove(rt, drive),
-        b'w' => waited(rt, drive, bytes),
-        b's' => stored(rt, drive, bytes),
-        b'p' => parts::show_parts(rt, drive),
-        _ => parts::show_bytes(rt, drive),
-    }
-}
-
-pub fn obey(rt: &impl Print, drive: Drive, line: &[u8]) -> io::Result<Drive> {
+pub fn obey(rt: &impl Print, drive: &mut Drive, line: &[u8]) -> io::Result<()> {
     if show::said(rt, line)? {
-        return Ok(drive);
+        return Ok(());
     }
-    let letter = letter_of(line);
-    let bytes = bytes_of(line);
-    if is_whole(line.len(), bytes.count) & has_its_bytes(letter, bytes.count) {
-        let next = called(rt, drive, letter, bytes)?;
-        show::text(rt, b"\n")?;
-        return Ok(next);
-    }
-    show::no_line(rt, line)?;
-    Ok(drive)
+    call(rt, drive, line)?;
+    rt.write_all(b"\n")
 }

@@ -1,9 +1,10 @@
 -- The ways of the commands' functions.
 -- Assumes nothing.
 use mathlib.Core.Path.{◌≡◌, refl}
-use mathlib.Core.Bool.{Bool, true, false}
+use mathlib.Core.Bool.{Bool, true}
 use mathlib.Core.List.{List, [], ◌∷◌, ◌++◌}
-use Prim.Native.Nat.{ℕ}
+use Prim.Native.Nat.{ℕ, ◌≤◌}
+use native.Mathlib.Omega.{arith}
 use types.Run.{OneOf, miss}
 use denote.Enum.Declared.{tag_of}
 use Rattle.opcodes.specs.contracts.Command
@@ -14,8 +15,7 @@ use Rattle.opcodes.specs.declared.Command.TheVariants.{ModeSelect, ModeSense, Lo
 use Rattle.transfer.specs.declared.Moved.{Moved}
 use Rattle.transfer.specs.Reading.{reads, read_from}
 use Rattle.transfer.specs.Writing.{writes, write_from}
-use Rattle.packet_state.specs.declared.state.Ending.{Ending}
-use Rattle.packet_state.specs.declared.state.Ending.TheVariants.{Good}
+use Rattle.packet_state.specs.Answers.{Ending, Good}
 use Rattle.packet_state.specs.declared.state.Outcome.{Outcome}
 use Rattle.packet_state.specs.declared.state.State.{State}
 use Rattle.packet_state.specs.States.{at_place}
@@ -27,21 +27,22 @@ use Rattle.packet_work.specs.Moving.{moves, read_moves}
 use Rattle.packet_work.specs.Settings.{load_work, lock_work}
 use Rattle.floppy_parts.specs.declared.tape.Tape.{Tape}
 use Rattle.floppy_parts.specs.Replies.{floppy_inquiry, floppy_mode, tape_page, tape_mode, mode_bytes}
-use Rattle.floppy_parts.specs.Tape.{product}
-use Rattle.numbers.specs.Choice.{◌≡ᵇ◌}
+use Rattle.floppy_parts.specs.Settings.{good_tape_list}
+use Rattle.floppy_parts.specs.Tape.{product, listed_tape}
+use Rattle.floppy_parts.proofs.SettingLaws.{good_within}
 use Rattle.floppy.specs.Work.{read_ending, read_ends, read_work, write_ending, write_ends, write_work, select_work, work_of}
 
 -- ---- READ and WRITE
 
 module _ (s : List ℕ) (h : Header) (end : ℕ) (st : State) (asked : ℕ) (buf new : List ℕ) (m : Moved) where
   module _ (run : reads new m ≡ read_from s h.size h.kinds h.blocks end asked 0 st.position buf) where
-    pub read_went : (x : Ending) (r : Outcome) → x ≡ read_ending m.stop m.left → r ≡ read_moves s h.kinds st asked h.size m x
+    pub read_went : (x : Ending) (r : Outcome State) → x ≡ read_ending m.stop m.left → r ≡ read_moves s h.kinds st asked h.size m x
         → done r s new ≡ read_work s h end st asked buf
     unfolding read_work read_ends
     read_went x r p q = rw (← run, q, p)
 
   module _ (run : writes new m ≡ write_from h.size h.kinds h.blocks end buf asked 0 st.position s) where
-    pub write_went : (x : Ending) (r : Outcome) → x ≡ write_ending m.left → r ≡ moves st asked h.size m x
+    pub write_went : (x : Ending) (r : Outcome State) → x ≡ write_ending m.left → r ≡ moves st asked h.size m x
         → done r new buf ≡ write_work s h end st asked buf
     unfolding write_work write_ends
     write_went x r p q = rw (← run, q, p)
@@ -49,14 +50,18 @@ module _ (s : List ℕ) (h : Header) (end : ℕ) (st : State) (asked : ℕ) (buf
 -- ---- 1Ah
 
 module _ (h : Header) (st : State) (t : Tape) (q : Request) where
-  pub device_shown : (page_code q ≡ᵇ device_page) ≡ true → mode_header h 31 ++ device_page_bytes h st floppy_mode t.bseg ≡ mode_bytes h st t q
+  pub device_shown : page_code q ≡ device_page → mode_header h 31 ++ device_page_bytes h st floppy_mode t.bseg ≡ mode_bytes h st t q
   device_shown e = rw e
 
-  pub tape_shown : (page_code q ≡ᵇ device_page) ≡ false → (page_code q ≡ᵇ tape_page) ≡ true → tape_mode h t ≡ mode_bytes h st t q
-  tape_shown e f = rw (e, f)
+  pub tape_shown : page_code q ≡ tape_page → tape_mode h t ≡ mode_bytes h st t q
+  tape_shown e = rw e
 
-  pub header_shown : (page_code q ≡ᵇ device_page) ≡ false → (page_code q ≡ᵇ tape_page) ≡ false → mode_header h 11 ≡ mode_bytes h st t q
-  header_shown e f = rw (e, f)
+-- ---- 15h
+
+-- the product of a list that is taken is within the elements of an image
+pub listed_bound : (h : Header) (list : List ℕ) (t : Tape) → h.capacity ≤ 65535 → good_tape_list h list ≡ true → t ≡ listed_tape list
+    → product t ≤ 65535
+listed_bound h list t l e p = rw p (omega (arith, good_within h list e))
 
 -- ---- by command
 
@@ -83,7 +88,7 @@ quiet_work Locate s h st t q buf o = absurd (miss quiet 12 tt o)
 quiet_work ReadPosition s h st t q buf o = refl
 quiet_work PreventAllow s h st t q buf o = absurd (miss quiet 14 tt o)
 
-module _ (k : Command) (s : List ℕ) (h : Header) (st : State) (t : Tape) (q : Request) (buf : List ℕ) (r : Outcome) where
+module _ (k : Command) (s : List ℕ) (h : Header) (st : State) (t : Tape) (q : Request) (buf : List ℕ) (r : Outcome State) where
   pub was_quiet : OneOf quiet (tag_of Command.the_type k) → r ≡ ends st Good 0 0 → done r s buf ≡ work_of k s h st t q buf
   was_quiet o p = rw p (quiet_work k s h st t q buf o)
 

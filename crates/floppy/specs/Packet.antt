@@ -1,21 +1,22 @@
 -- What a packet leaves of the floppy tape device, and what the fresh record and the cartridge change leave, for every input.
 -- Assumes nothing.
-use Rattle.std.specs.Prelude.{ℕ, not, List, ◌≡◌, if◌then◌else◌}
+use Rattle.std.specs.Prelude.{ℕ, not, List, [], ◌≡◌, if◌then◌else◌, Result}
+use Rattle.numbers.specs.declared.refusals.Refusal.{Refusal}
 use Rattle.image.specs.declared.header.Header.{Header}
 use Rattle.image.specs.Header.{fields_of, broken_image}
-use Rattle.packet_state.specs.declared.state.Ending.TheVariants.{Good}
+use Rattle.packet_state.specs.Answers.{Good}
+use Rattle.packet_state.specs.declared.state.Outcome.{Outcome}
 use Rattle.packet_state.specs.declared.state.State.{State}
 use Rattle.packet_state.specs.States.{fresh_state, changed_state}
 use Rattle.packet_parts.specs.declared.requests.Request.{Request}
-use Rattle.packet_parts.specs.Answers.{Left, refused, ends}
-use Rattle.packet_parts.specs.Shell.{Device, answers_to}
+use Rattle.packet_parts.specs.Answers.{Left, done, left, ends}
+use Rattle.packet_parts.specs.Shell.{Device, refuses, answers_to}
 use Rattle.floppy_parts.specs.declared.tape.Floppy.{Floppy}
-use Rattle.floppy_parts.specs.declared.tape.FloppyOutcome.{FloppyOutcome}
 use Rattle.floppy_parts.specs.Checks.{asked_by}
 use Rattle.floppy_parts.specs.Headers.{is_full}
 use Rattle.floppy_parts.specs.Requests.{floppy_request}
 use Rattle.floppy_parts.specs.Rules.{keeps_floppy_rules}
-use Rattle.floppy_parts.specs.Tape.{product, reset_tape, with_shared, joined, leaves, beside}
+use Rattle.floppy_parts.specs.Tape.{product, reset_tape, with_shared, joined, beside}
 use Rattle.floppy_parts.specs.Settings.{tape_after}
 use Rattle.floppy.specs.Work.{work_of}
 
@@ -41,28 +42,29 @@ floppy_device =
 abbrev pub floppy_step : List ℕ → Floppy → List ℕ → List ℕ → Left Floppy
 floppy_step s f packet buf = answers_to floppy_device s f packet buf
 
--- "given by the fresh record and the cartridge change too, which read C from the image": 2, and the record f stays; or the next record, its parameters reset
-unfoldable pub mounted : List ℕ → Floppy → State → FloppyOutcome
+-- "given by the fresh record and the cartridge change too, which read C from the image": 2, and the record f stays; or the next record, its parameters reset.
+-- The image s is only read, and no buffer is lent.
+unfoldable pub mounted : List ℕ → Floppy → State → Left Floppy
 mounted s f next =
-    if not (is_full s) then joined (refused f.shared broken_image) f.tape else
-    joined (ends next Good 0 0) (reset_tape (fields_of s).capacity)
+    if not (is_full s) then refuses f broken_image s [] else
+    done (joined (ends next Good 0 0) (reset_tape (fields_of s).capacity)) s []
 
 -- "in a fresh record": beside the one of every packet device
-abbrev pub fresh_floppy : List ℕ → Floppy → FloppyOutcome
+abbrev pub fresh_floppy : List ℕ → Floppy → Left Floppy
 fresh_floppy s f = mounted s f fresh_state
 
 -- 01: "Changing the cartridge .. sets only P 0, loaded, attention medium changed, sense zero."
-abbrev pub changed_floppy : List ℕ → Floppy → FloppyOutcome
+abbrev pub changed_floppy : List ℕ → Floppy → Left Floppy
 changed_floppy s f = mounted s f (changed_state f.shared)
 
 -- ---- the promises of the public calls
 
-abbrev pub FreshPromise : List ℕ → Floppy → FloppyOutcome → Type 0
-FreshPromise s f r = r ≡ fresh_floppy s f
+abbrev pub FreshPromise : List ℕ → Floppy → Result (Outcome Floppy) Refusal → Type 0
+FreshPromise s f r = left f r s [] ≡ fresh_floppy s f
 
-abbrev pub ChangedPromise : List ℕ → Floppy → FloppyOutcome → Type 0
-ChangedPromise s f r = r ≡ changed_floppy s f
+abbrev pub ChangedPromise : List ℕ → Floppy → Result (Outcome Floppy) Refusal → Type 0
+ChangedPromise s f r = left f r s [] ≡ changed_floppy s f
 
 -- the outcome, and image and buffer at the end
-abbrev pub PacketPromise : List ℕ → Floppy → List ℕ → List ℕ → FloppyOutcome → List ℕ → List ℕ → Type 0
-PacketPromise s f packet buf r image' buf' = leaves r image' buf' ≡ floppy_step s f packet buf
+abbrev pub PacketPromise : List ℕ → Floppy → List ℕ → List ℕ → Result (Outcome Floppy) Refusal → List ℕ → List ℕ → Type 0
+PacketPromise s f packet buf r image' buf' = left f r image' buf' ≡ floppy_step s f packet buf

@@ -1,9 +1,8 @@
 -- The work of each command of the floppy tape device, once nothing before it ended the packet.
 -- Assumes nothing.
-use Rattle.std.specs.Prelude.{ℕ, ◌-◌, ◌≤◌, false, not, List, ◌≡◌, if◌then◌else◌}
+use Rattle.std.specs.Prelude.{ℕ, ◌-◌, ◌≤◌, false, not, List, ◌≡◌, if◌then◌else◌, Some}
 use Rattle.numbers.specs.Choice.{◌≡ᵇ◌, ◌<ᵇ◌, ◌≤ᵇ◌}
 use Rattle.image.specs.declared.header.Header.{Header}
-use Rattle.image.specs.declared.header.Judged.TheVariants.{Good as GoodHeader}
 use Rattle.image.specs.Header.{header_of}
 use Rattle.opcodes.specs.declared.Command.{Command}
 use Rattle.opcodes.specs.declared.Command.TheVariants.{Unknown, TestUnitReady, Rewind, RequestSense, Read, Write, WriteFilemarks, Space, Inquiry}
@@ -12,8 +11,7 @@ use Rattle.transfer.specs.declared.Stop.{Stop}
 use Rattle.transfer.specs.declared.Stop.TheVariants.{Full, AtFilemark, AtBadBlock, AtEnd, AtBeginning}
 use Rattle.transfer.specs.Reading.{Reading, read_from}
 use Rattle.transfer.specs.Writing.{Writing, write_from}
-use Rattle.packet_state.specs.declared.state.Ending.{Ending}
-use Rattle.packet_state.specs.declared.state.Ending.TheVariants.{Good, Check}
+use Rattle.packet_state.specs.Answers.{Ending, Good, Check}
 use Rattle.packet_state.specs.declared.state.Outcome.{Outcome}
 use Rattle.packet_state.specs.declared.state.State.{State}
 use Rattle.packet_state.specs.Senses.{unreadable_block, end_of_data, volume_overflow, wrong_list}
@@ -33,7 +31,7 @@ use Rattle.floppy_parts.specs.Tape.{product, listed_tape}
 
 -- what a packet has passed when it comes to its work: the image has the header h, and the record keeps rule 3
 pub record Passed (s : List ℕ) (h : Header) (st : State) (t : Tape) : Type 0 where
-  pub header : header_of s ≡ GoodHeader h
+  pub header : header_of s ≡ Some h
   pub within : product t ≤ h.capacity
   pub place : st.position ≤ product t
   pub key : st.sense.key ≤ highest_key
@@ -77,13 +75,13 @@ write_work s h end st asked buf =
 unfoldable pub place_under : ℕ → ℕ → ℕ
 place_under end p = if end <ᵇ p then 0 else p
 
-unfoldable pub tape_work : Header → State → List ℕ → Outcome
+unfoldable pub tape_work : Header → State → List ℕ → Outcome State
 tape_work h st list =
     if not (good_tape_list h list) then ends st (Check wrong_list) 0 0 else
     ends (at_place st (place_under (product (listed_tape list)) st.position)) Good 0 tape_list
 
 -- lengths 0 and 12 set nothing; 32 sets the speed, as 01 says; 28 the tape parameters
-unfoldable pub select_work : Header → State → ℕ → List ℕ → Outcome
+unfoldable pub select_work : Header → State → ℕ → List ℕ → Outcome State
 select_work h st asked list =
     if asked ≡ᵇ full_list then speed_work st list else
     if asked ≡ᵇ tape_list then tape_work h st list else

@@ -3,99 +3,95 @@
 
 pub mod work; // work.rt: one function a command
 
-ghost use Rattle.std.specs.Prelude.{◌≡◌};
-ghost use Rattle.packet_parts.specs.Shell.{decided};
-ghost use Rattle.floppy_parts.specs.Tape.{floppy_of, leaves};
-ghost use Rattle.floppy.specs.Work.{Passed};
+ghost use Rattle.std.specs.Prelude.{◌≡◌, [], IfSome, Some};
+ghost use Rattle.packet_parts.specs.Answers.{left};
 ghost use Rattle.floppy.specs.Packet.{floppy_device, mounted, FreshPromise, ChangedPromise, PacketPromise};
 
-use crate::work::work;
-use floppy_parts::checks::verdict;
 use floppy_parts::headers::full_header_of;
 use floppy_parts::requests::floppy_request;
 use floppy_parts::rules::keeps_floppy_rules;
 use floppy_parts::settings::tape_after;
-use floppy_parts::tape::{Floppy, FloppyOutcome, Tape, end_of, joined, reset_tape};
-use image::header::{Header, Judged};
-use packet_parts::answers::{end, end_before, refuse};
+use floppy_parts::tape::{Floppy, Tape, joined};
+use image::header::Header;
+use numbers::refusals::Refusal;
+use packet_parts::answers::{end, end_before};
 use packet_parts::requests::Request;
-use packet_state::state::{Ending, State, Verdict, changed_state, fresh_state};
+use packet_parts::shell::{PacketDevice, answer};
+use packet_state::state::{Outcome, Sense, State, Verdict};
 
-const PACKET_LENGTH: usize = 12;
+pub struct FloppyDevice;
 
-const NOT_TWELVE_BYTES: u8 = 1;
+impl PacketDevice for FloppyDevice {
+    type Record = Floppy;
 
-const BROKEN_IMAGE: u8 = 2;
+    ghost device = { floppy_device };
 
-const UNRULY_RECORD: u8 = 3;
+    ghost fits = { λ q. Unit };
 
-// The next record over this image, or 2 and the record as it was.
-#[tactic(auto, unfolding(crate::specs::Packet::mounted, floppy_parts::specs::Headers::full_header_of))]
-fn mount(image: &[u8], before: Floppy, next: State) -> FloppyOutcome
-    ensures { result ≡ mounted image.now before next }
+    #[tactic(auto, using(floppy_parts::proofs::FullLaws::full_header), unfolding(floppy_parts::specs::Headers::full_header_of))]
+    fn header_of(image: &[u8]) -> Option<Header> {
+        full_header_of(image)
+    }
+
+    fn keeps_rules(h: Header, floppy: Floppy) -> bool {
+        keeps_floppy_rules(h, floppy)
+    }
+
+    fn request(packet: &[u8]) -> Request {
+        floppy_request(packet)
+    }
+
+    #[tactic(auto, using(crate::proofs::PacketLaws::end_bound))]
+    fn verdict(h: Header, floppy: Floppy, q: Request, room: usize) -> Verdict {
+        floppy_parts::checks::verdict(h, floppy.shared, floppy.tape.end(), q, room)
+    }
+
+    fn end_before(floppy: Floppy, sense: Sense) -> Outcome<Floppy> {
+        joined(end_before(floppy.shared, sense), floppy.tape)
+    }
+
+    #[tactic(auto, using(crate::proofs::PacketLaws::work_ways))]
+    fn work(
+        image: &mut [u8],
+        h: Header,
+        floppy: Floppy,
+        q: Request,
+        buf: &mut [u8],
+    ) -> Outcome<Floppy> {
+        let after = tape_after(h, floppy.tape, q, buf);
+        joined(work::work(image, h, floppy, q, buf), after)
+    }
+}
+
+// The next record over this image, or 2, and the record `before` stays with whoever asked.
+#[tactic(auto, using(crate::proofs::PacketLaws::mount_ways))]
+fn mount(image: &[u8], before: Floppy, next: State) -> Result<Outcome<Floppy>, Refusal>
+    ensures { left before result image.now [] ≡ mounted image.now before next }
 {
-    let shared = before.shared;
-    let tape = before.tape;
-    let Judged::Good(h) = full_header_of(image) else {
-        return joined(refuse(shared, BROKEN_IMAGE), tape);
-    };
-    joined(end(next, Ending::Good, 0, 0), reset_tape(h.capacity))
+    let h = full_header_of(image).ok_or(Refusal::BrokenImage)?;
+    Ok(joined(end(next, Ok(()), 0, 0), Tape::reset(h.capacity)))
 }
 
 // 02, A1: "the fresh record .. read[s] C from the image".
-pub fn fresh(image: &[u8], before: Floppy) -> FloppyOutcome
+pub fn fresh(image: &[u8], before: Floppy) -> Result<Outcome<Floppy>, Refusal>
     ensures { FreshPromise image.now before result }
 {
-    mount(image, before, fresh_state())
+    mount(image, before, State::fresh())
 }
 
-pub fn changed(image: &[u8], before: Floppy) -> FloppyOutcome
+pub fn changed(image: &[u8], before: Floppy) -> Result<Outcome<Floppy>, Refusal>
     ensures { ChangedPromise image.now before result }
 {
-    let shared = before.shared;
-    mount(image, before, changed_state(shared))
+    mount(image, before, before.shared.changed())
 }
 
-#[tactic(auto, unfolding(packet_parts::specs::Shell::decided, packet_parts::specs::Shell::carried_out))]
-fn decide(
+pub fn packet(
     image: &mut [u8],
-    h: Header,
-    state: State,
-    tape: Tape,
-    q: Request,
+    before: Floppy,
+    packet: &[u8],
     buf: &mut [u8],
-) -> FloppyOutcome
-    requires { Passed image.old h state tape }
-    ensures { leaves result image.new buf.new
-        ≡ decided floppy_device image.old h (floppy_of state tape) q buf.old }
-{
-    let found = verdict(h, state, end_of(tape), q, buf.len());
-    match found {
-        Verdict::Refuses(number) => joined(refuse(state, number), tape),
-        Verdict::Ends(sense) => joined(end_before(state, sense), tape),
-        Verdict::Works => {
-            let after = tape_after(h, tape, q, buf);
-            joined(work(image, h, state, tape, q, buf), after)
-        }
-    }
-}
-
-// 01: "Packet order: 1, 2, 3, attention, opcode, fields, not ready, protection, 4, list contents, the work."
-#[tactic(auto, unfolding(packet_parts::specs::Shell::answers_to, floppy_parts::specs::Headers::full_header_of))]
-pub fn packet(image: &mut [u8], before: Floppy, packet: &[u8], buf: &mut [u8]) -> FloppyOutcome
+) -> Result<Outcome<Floppy>, Refusal>
     ensures { PacketPromise image.old before packet.now buf.old result image.new buf.new }
 {
-    let shared = before.shared;
-    let tape = before.tape;
-    if packet.len() != PACKET_LENGTH {
-        return joined(refuse(shared, NOT_TWELVE_BYTES), tape);
-    }
-    let Judged::Good(h) = full_header_of(image) else {
-        return joined(refuse(shared, BROKEN_IMAGE), tape);
-    };
-    let sound = keeps_floppy_rules(h, before);
-    if sound {
-        return decide(image, h, shared, tape, floppy_request(packet), buf);
-    }
-    joined(refuse(shared, UNRULY_RECORD), tape)
+    answer::<FloppyDevice>(image, before, packet, buf)
 }

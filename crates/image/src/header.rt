@@ -30,12 +30,14 @@ pub fn span(elements: u32, size: u16) -> u32
     elements * size as u32
 }
 
+#[tactic(auto, unfolding(numbers::specs::Member::is_in))]
 fn is_block_size(size: u16) -> bool
     ensures { result ≡ is_in size block_sizes }
 {
-    (512 == size) | (1024 == size)
+    matches!(size, 512 | 1024)
 }
 
+#[tactic(auto, unfolding(crate::specs::Header::fields_of))]
 fn fields(image: &[u8]) -> Header
     requires { 32 ≤ length image.now }
     ensures { result ≡ fields_of image.now }

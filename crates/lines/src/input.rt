@@ -1,29 +1,38 @@
-// Bytes of an input, as many as are there.
+// A script read from an input, and run.
 ghost use Rattle.std.specs.Prelude.{◌≤◌, length};
 
+use std::io;
 use std::io::Read;
 
-// What one read puts at the start of buf; an input that fails has ended.
-pub fn read_some(input: &mut impl Read, buf: &mut [u8]) -> usize
-    ensures { result ≤ length buf.new }
-{
-    match input.read(buf) {
-        Ok(n) => n,
-        Err(_) => 0,
-    }
-}
+const MOST: usize = 65536;
 
-// Reads until buf is full or the input has ended, and tells how many bytes it put at the start of buf.
-pub fn read_full(input: &mut impl Read, buf: &mut [u8]) -> usize
+// Reads until buf is full or the input has ended, and tells how many bytes it put at the start of buf; an input that fails has ended.
+// A loop over read: read_exact does not tell how far it came, and read_to_end asks for memory.
+fn read_full(input: &mut impl Read, buf: &mut [u8]) -> usize
     ensures { result ≤ length buf.new }
 {
     let mut done: usize = 0;
     while done < buf.len() {
-        let n = read_some(input, &mut buf[done..]);
+        let n = input.read(&mut buf[done..]).unwrap_or(0);
         if n == 0 {
             break;
         }
         done += n;
     }
     done
+}
+
+// The lines of a script of at most 65,536 bytes, one after the other, up to the first that fails.
+pub fn run_script<F: FnMut(&[u8]) -> io::Result<()>>(
+    input: &mut impl Read,
+    mut obey: F,
+) -> io::Result<()>
+    requires { F.IsAlwaysCallable obey }
+{
+    let mut text = [0u8; MOST];
+    let n = read_full(input, &mut text);
+    for line in text[..n].split(|byte| *byte == b'\n') {
+        obey(line)?;
+    }
+    Ok(())
 }

@@ -1,6 +1,6 @@
-// What the programs that run a script share: its lines taken apart, and what they print.
+// What the programs that run a script share: a script read and run, its lines taken apart, and what they print.
 #![tactic(auto)]
 
-pub mod input; // input.rt: a script read
-pub mod line; // line.rt: where a line ends, and its bytes in hexadecimal
-pub mod show; // show.rt: text, numbers and bytes on standard output
+pub mod input; // input.rt: a script read, and run line by line
+pub mod line; // line.rt: the bytes in hexadecimal of a line
+pub mod show; // show.rt: text and bytes on standard output

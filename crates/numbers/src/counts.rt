@@ -25,12 +25,6 @@ pub fn low_byte(number: u16) -> u8
 
 // ---- counts read
 
-fn wide(byte: u8) -> u32
-    ensures { (result ≡ byte) × (result < 2 ^ 8) }
-{
-    byte as u32
-}
-
 pub fn count2(s: &[u8], at: usize) -> u16
     requires { at + 2 ≤ length s.now }
     ensures { result ≡ count_at s.now at 2 }
@@ -42,14 +36,14 @@ pub fn count3(s: &[u8], at: usize) -> u32
     requires { at + 3 ≤ length s.now }
     ensures { (result ≡ count_at s.now at 3) × (result < 2 ^ 24) }
 {
-    count2(s, at) as u32 * 256 + wide(s[at + 2])
+    count2(s, at) as u32 * 256 + s[at + 2] as u32
 }
 
 pub fn count4(s: &[u8], at: usize) -> u32
     requires { at + 4 ≤ length s.now }
     ensures { result ≡ count_at s.now at 4 }
 {
-    count3(s, at) * 256 + wide(s[at + 3])
+    count3(s, at) * 256 + s[at + 3] as u32
 }
 
 // ---- counts stored

@@ -2,6 +2,7 @@
 ghost use Rattle.std.specs.Prelude.{◌≡◌};
 ghost use Rattle.numbers.specs.Member.{is_in};
 
+#[tactic(auto, using(crate::proofs::MemberLaws::is_any))]
 pub fn is_in(x: u16, table: &[u16]) -> bool
     ensures { result ≡ is_in x table.now }
 {

@@ -5,6 +5,7 @@ ghost use Rattle.numbers.specs.Words.{word_at, word_bytes};
 
 use crate::counts::pair;
 
+#[tactic(auto, using(crate::proofs::WordLaws::word_so))]
 pub fn word_at(s: &[u8], at: usize) -> u32
     requires { at + 4 ≤ length s.now }
     ensures { result ≡ word_at s.now at }
@@ -14,6 +15,7 @@ pub fn word_at(s: &[u8], at: usize) -> u32
     high as u32 * 65536 + low as u32
 }
 
+#[tactic(auto, using(crate::proofs::WordLaws::stored_so), unfolding(crate::specs::Words::word_bytes))]
 pub fn put_word(s: &mut [u8], at: usize, w: u32)
     requires { at + 4 ≤ length s.old }
     ensures { s.new ≡ over s.old at (word_bytes w) }

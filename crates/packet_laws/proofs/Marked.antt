@@ -1,6 +1,6 @@
 -- Marked blocks through a packet, of any device whose READ counts them.
 -- Assumes nothing.
-use Rattle.std.specs.Prelude.{if◌then◌else◌}
+use Rattle.std.specs.Prelude.{Some, if◌then◌else◌}
 use Prim.Native.Nat.{ℕ, zero, suc, ◌+◌, ◌-◌, ◌≤◌}
 use native.Mathlib.Omega.{arith}
 use mathlib.Core.Bool.{not}
@@ -14,7 +14,6 @@ use Rattle.numbers.proofs.Cases.{test, either}
 use Rattle.numbers.proofs.OverLaws.{part_first}
 use Rattle.image.specs.declared.header.Header.{Header}
 use Rattle.image.specs.Elements.{kind_of, kind_at}
-use Rattle.image.specs.declared.header.Judged.TheVariants.{Good}
 use Rattle.image.specs.Header.{fields_of, header_of}
 use Rattle.image.proofs.HeaderLaws.{sound}
 use Rattle.opcodes.specs.declared.Command.TheVariants.{Read}
@@ -22,10 +21,10 @@ use Rattle.transfer.specs.declared.Moved.{Moved}
 use Rattle.transfer.specs.Marked.{marked_in, marked_from}
 use Rattle.transfer.specs.Reading.{read_from}
 use Rattle.transfer.proofs.ReadLaws.{read-few}
-use Rattle.packet_state.specs.declared.state.Answer.{Answer}
-use Rattle.packet_state.specs.declared.state.Ending.{Ending}
+use Rattle.packet_state.specs.Answers.{Ending}
 use Rattle.packet_state.specs.declared.state.Outcome.{Outcome}
 use Rattle.packet_state.specs.declared.state.State.{State}
+use Rattle.packet_state.specs.declared.state.Told.{Told}
 use Rattle.packet_parts.specs.declared.requests.Request.{Request}
 use Rattle.packet_parts.specs.Answers.{Left}
 use Rattle.packet_parts.specs.Shell.{Device, carried_out, answers_to}
@@ -61,16 +60,16 @@ module _ (s : List ℕ) (h : Header) (end : ℕ) (st : State) (asked : ℕ) (buf
   abbrev moved : Moved
   moved = (read_from s h.size h.kinds h.blocks end asked 0 st.position buf).moved
 
-  abbrev told : Answer
+  abbrev told : Told
   told = (read_moves s h.kinds st asked h.size moved e).answer
 
   blocks_told : told.blocks ≡ asked - moved.left
-  blocks_told = ap (λ (x : Outcome). x.answer.blocks) (ends_is _ e _ _)
+  blocks_told = ap (λ (x : Outcome State). x.answer.blocks) (ends_is _ e _ _)
 
   pub read_counts : told.marked ≡ marked_from s h.kinds told.blocks st.position
   read_counts = ap (λ (k : ℕ). marked_from s h.kinds k st.position) (sym blocks_told)
 
-  pub read_within : header_of s ≡ Good h → end ≤ h.capacity → st.position ≤ end → h.kinds + (st.position + told.blocks) ≤ length s
+  pub read_within : header_of s ≡ Some h → end ≤ h.capacity → st.position ≤ end → h.kinds + (st.position + told.blocks) ≤ length s
   read_within good inside place =
       let g = sound s h good in
       let f = read-few s h.size h.kinds h.blocks end asked 0 st.position buf place in
@@ -80,7 +79,7 @@ module _ (s : List ℕ) (h : Header) (end : ℕ) (st : State) (asked : ℕ) (buf
 
 pub speed_unmarked : (st : State) (list : List ℕ) → (speed_work st list).answer.marked ≡ 0
 unfolding speed_work
-speed_unmarked st list = either (λ (x : Outcome). x.answer.marked ≡ 0) (not (good_list list)) _ _ (λ e. ends_unmarked _ _ _ _) (λ e. ends_unmarked _ _ _ _)
+speed_unmarked st list = either (λ (x : Outcome State). x.answer.marked ≡ 0) (not (good_list list)) _ _ (λ e. ends_unmarked _ _ _ _) (λ e. ends_unmarked _ _ _ _)
 
 -- ---- a device whose READ counts the marked blocks that it copies, all of which are in the image, and whose other work tells of none
 

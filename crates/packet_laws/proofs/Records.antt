@@ -9,7 +9,7 @@ use Rattle.image.specs.declared.header.Header.{Header}
 use Rattle.image.specs.Header.{fields_of}
 use Rattle.opcodes.specs.declared.Command.{Command}
 use Rattle.opcodes.specs.declared.Command.TheVariants.{ModeSelect, LoadUnload, PreventAllow}
-use Rattle.packet_state.specs.declared.state.Ending.{Ending}
+use Rattle.packet_state.specs.Answers.{Ending}
 use Rattle.packet_state.specs.declared.state.Sense.{Sense}
 use Rattle.packet_state.specs.declared.state.State.{State}
 use Rattle.packet_parts.specs.declared.requests.Request.{Request}

@@ -12,7 +12,7 @@ use Rattle.numbers.proofs.CountLaws.{count_by_bytes}
 use Rattle.image.specs.declared.header.Header.{Header}
 use Rattle.image.specs.Header.{fields_of}
 use Rattle.opcodes.specs.declared.Command.TheVariants.{ModeSelect}
-use Rattle.packet_state.specs.declared.state.Ending.TheVariants.{Good, Check}
+use Rattle.packet_state.specs.Answers.{Good, Check, accepted}
 use Rattle.packet_state.specs.declared.state.Outcome.{Outcome}
 use Rattle.packet_state.specs.declared.state.State.{State}
 use Rattle.packet_state.specs.Senses.{wrong_list}
@@ -38,7 +38,7 @@ page_speed h st byte4 unit l = omega arith
 -- ---- the list that 15h takes, good or wrong
 
 module _ (st : State) (list : List ℕ) where
-  abbrev by_test : Bool → Outcome
+  abbrev by_test : Bool → Outcome State
   by_test good = if not good then ends st (Check wrong_list) 0 0 else ends (with_speed st (list_speed list)) Good 0 full_list
 
   taken_by : (good : Bool) → ((by_test good).answer.status ≡ good_status) ↔ (good ≡ true)
@@ -62,7 +62,7 @@ pub record KeepsSpeed {R : Type 0} (d : Device R) : Type 0 where
   pub stays : KeepsRecord d
   pub ruled : (h : Header) (st : R) → d.keeps_rules h st ≡ true → is_in (d.shared st).speed speeds ≡ true
   pub answers : (s : List ℕ) (h : Header) (st : R) (q : Request) (list : List ℕ) → q.command ≡ ModeSelect → q.length ≡ full_list
-      → (d.work s h st q list).answer ≡ (speed_work (d.shared st) list).answer
+      → (d.work s h st q list).answer ≡ accepted (speed_work (d.shared st) list).answer
   pub takes : (s : List ℕ) (h : Header) (st : R) (q : Request) (list : List ℕ) → q.command ≡ ModeSelect → q.length ≡ full_list
       → d.shared (d.work s h st q list).state ≡ (speed_work (d.shared st) list).state
 
@@ -77,7 +77,7 @@ module _ {R : Type 0} (d : Device R) (keeps : KeepsSpeed d) (s : List ℕ) (st :
       ∙ page_speed (fields_of s) (d.shared st) (keeps.page.byte4 st) (keeps.page.unit st) few
 
   module _ (t : SendsSpeed d s st packet buf) where
-    answered : (answers_to d s st packet buf).answer ≡ (speed_work (d.shared st) buf).answer
+    answered : (answers_to d s st packet buf).answer ≡ accepted (speed_work (d.shared st) buf).answer
     answered =
         ap (λ (x : Left R). x.answer) (begins-work d s st packet buf t.begins)
         ∙ keeps.answers s (fields_of s) st (d.request packet) buf t.mode_select t.whole

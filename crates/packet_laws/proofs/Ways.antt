@@ -8,6 +8,7 @@ use mathlib.Core.Path.{◌≡◌, refl}
 use borrow.Author.Tests.{eqb-true, eqb-false, eq-eqb}
 use lib.Dec.{eqb}
 use lib.ListN.{length}
+use Rattle.numbers.specs.declared.refusals.Refusal.TheVariants.{ShortBuffer}
 use Rattle.image.specs.declared.header.Header.{Header}
 use Rattle.image.specs.Header.{fields_of, broken_image}
 use Rattle.packet_state.specs.declared.state.Sense.{Sense}
@@ -16,7 +17,7 @@ use Rattle.packet_state.specs.declared.state.Verdict.{Verdict}
 use Rattle.packet_state.specs.declared.state.Verdict.TheVariants.{Refuses, Ends, Works}
 use Rattle.packet_parts.specs.declared.requests.Request.{Request}
 use Rattle.packet_parts.specs.declared.verdicts.Asked.{Asked}
-use Rattle.packet_parts.specs.Answers.{Left, not_twelve_bytes, unruly_record, short_buffer}
+use Rattle.packet_parts.specs.Answers.{Left, not_twelve_bytes, unruly_record}
 use Rattle.packet_parts.specs.Requests.{packet_length}
 use Rattle.packet_parts.specs.Shell.{Device, with_work, refuses, carried_out, found_by, ends_first, decided, answers_to}
 use Rattle.packet_parts.specs.Verdicts.{is_protected, is_held, ends_early}
@@ -52,7 +53,7 @@ module _ {R : Type 0} (d : Device R) (s : List ℕ) (st : R) (packet buf : List 
     cut : (length packet ≡ packet_length → ⊥) → Way (refuses st not_twelve_bytes s buf)
     broken : length packet ≡ packet_length → d.accepts s ≡ false → Way (refuses st broken_image s buf)
     unruly : length packet ≡ packet_length → d.accepts s ≡ true → d.keeps_rules (fields_of s) st ≡ false → Way (refuses st unruly_record s buf)
-    short : Passes d s st packet buf → Unended d s st packet buf → length buf < room_for d s st packet buf → Way (carried (Refuses short_buffer))
+    short : Passes d s st packet buf → Unended d s st packet buf → length buf < room_for d s st packet buf → Way (carried (Refuses ShortBuffer))
     ends-early : Passes d s st packet buf → (x : Sense) → ends_first d (fields_of s) st (d.request packet) ≡ true → Early x → Way (carried (Ends x))
     works : Passes d s st packet buf → Unended d s st packet buf → room_for d s st packet buf ≤ length buf → Way (carried Works)
 

@@ -4,7 +4,7 @@ use Rattle.std.specs.Prelude.{ℕ, ◌+◌, Bool, not, ◌&&◌, List, get_or, i
 use Rattle.numbers.specs.Choice.{◌≡ᵇ◌}
 use Rattle.numbers.specs.Counts.{count_at}
 use Rattle.numbers.specs.Member.{is_in}
-use Rattle.packet_state.specs.declared.state.Ending.TheVariants.{Good, Check}
+use Rattle.packet_state.specs.Answers.{Good, Check}
 use Rattle.packet_state.specs.declared.state.Outcome.{Outcome}
 use Rattle.packet_state.specs.declared.state.State.{State}
 use Rattle.packet_state.specs.Senses.{wrong_list}
@@ -23,7 +23,7 @@ good_list list =
     (get_or list short_list 0 ≡ᵇ device_page) && (get_or list (short_list + 1) 0 ≡ᵇ device_page_length) && is_in (list_speed list) speeds
 
 -- "Length 32: page bytes 2Ah 12h and speed .., else 5/26/00; other bytes ignored."
-unfoldable pub speed_work : State → List ℕ → Outcome
+unfoldable pub speed_work : State → List ℕ → Outcome State
 speed_work st list =
     if not (good_list list) then ends st (Check wrong_list) 0 0 else
     ends (with_speed st (list_speed list)) Good 0 full_list
@@ -31,11 +31,11 @@ speed_work st list =
 -- ---- 1Bh LOAD/UNLOAD
 
 -- "P = 0; loaded as the bit says."
-unfoldable pub load_work : State → Bool → Outcome
+unfoldable pub load_work : State → Bool → Outcome State
 load_work st load = ends (with_loaded (at_place st 0) load) Good 0 0
 
 -- ---- 1Eh PREVENT/ALLOW MEDIUM REMOVAL
 
 -- 02, A8: "1Eh, byte 4 bit 0": locked as the bit says
-unfoldable pub lock_work : State → Bool → Outcome
+unfoldable pub lock_work : State → Bool → Outcome State
 lock_work st prevent = ends (with_locked st prevent) Good 0 0

@@ -11,7 +11,7 @@ use packet_state::state::{Outcome, State};
 // The length after itself, in the first byte of a mode header with the device page.
 const AFTER_FULL: u8 = 31;
 
-pub fn request_sense(state: State, asked: u8, buf: &mut [u8]) -> Outcome
+pub fn request_sense(state: State, asked: u8, buf: &mut [u8]) -> Outcome<State>
     requires { (state.sense.key ≤ 15) × (min asked 20 ≤ length buf.old) }
     ensures value { result ≡ reply_ends (sense_bytes state.sense) asked state }
     ensures buf_after { buf.new ≡ replied_into (sense_bytes state.sense) asked buf.old }
@@ -21,7 +21,7 @@ pub fn request_sense(state: State, asked: u8, buf: &mut [u8]) -> Outcome
     reply(&bytes, asked, state, buf)
 }
 
-pub fn inquiry(device: u8, state: State, asked: u8, buf: &mut [u8]) -> Outcome
+pub fn inquiry(device: u8, state: State, asked: u8, buf: &mut [u8]) -> Outcome<State>
     requires { min asked 36 ≤ length buf.old }
     ensures value { result ≡ reply_ends (inquiry_bytes device) asked state }
     ensures buf_after { buf.new ≡ replied_into (inquiry_bytes device) asked buf.old }

@@ -1,96 +1,68 @@
-// A line of the script, taken apart: a letter, then bytes in hexadecimal.
+// A line of the script, taken apart: a letter, then bytes in hexadecimal; one that is not there is 0.
 //   "TEXT    prints the text          = TEXT  prints it as a line of its own
 //   p BYTES  sends a packet           n       a new card, as in 01's plates
 //   c, f     changes the cartridge, or makes the record fresh
 //   i, r, d  AA AA BYTES: stores bytes in the image, the record, the data buffer
 //   l, m     LL LL: how much of the data buffer, of the image, is lent
 //   x, y, w  AA AA NN: prints bytes of the data buffer, of the image, of the record
-use crate::card;
 use crate::card::Card;
-use lines::line::{Bytes, bytes_of, letter_of, place_of, store};
+use lines::line::bytes_of;
 use lines::show;
+use lines::show::Hex;
+use numbers::counts::pair;
 use std::io;
+use tapecard::packet_calls::{tapecard_change, tapecard_fresh};
 
-fn store_in_image(card: Card, bytes: Bytes) -> Card {
-    let mut next = card;
-    let mut image = card.image;
-    store(&mut image, bytes);
-    next.image = image;
-    next
+fn byte_at(bytes: &[u8], i: usize) -> u8 {
+    bytes.get(i).copied().unwrap_or(0)
 }
 
-fn store_in_record(card: Card, bytes: Bytes) -> Card {
-    let mut next = card;
-    let mut state = card.state;
-    store(&mut state, bytes);
-    next.state = state;
-    next
+// What the first two bytes spell.
+fn place_of(bytes: &[u8]) -> usize {
+    pair(byte_at(bytes, 0), byte_at(bytes, 1)) as usize
 }
 
-fn store_in_buffer(card: Card, bytes: Bytes) -> Card {
-    let mut next = card;
-    let mut buf = card.buf;
-    store(&mut buf, bytes);
-    next.buf = buf;
-    next
+// The bytes from the third on, stored at the place that the first two name, as far as they fit.
+fn store(dst: &mut [u8], bytes: &[u8]) {
+    let Some(part) = dst.get_mut(place_of(bytes)..) else {
+        return;
+    };
+    for (kept, value) in part.iter_mut().zip(bytes.iter().skip(2)) {
+        *kept = *value;
+    }
 }
 
-fn with_room(card: Card, bytes: Bytes) -> Card {
-    let mut next = card;
-    let room = place_of(bytes) as usize;
-    next.room = room;
-    next
+// As many bytes as the third one says, from the place on that the first two name.
+fn show_part(rt: &impl Print, src: &[u8], bytes: &[u8]) -> io::Result<()> {
+    let from = src.len().min(place_of(bytes));
+    let to = src.len().min(from + byte_at(bytes, 2) as usize);
+    let part = Hex(&src[from..to]);
+    println!(rt; "{part}")
 }
 
-fn with_image(card: Card, bytes: Bytes) -> Card {
-    let mut next = card;
-    let lent = place_of(bytes) as usize;
-    next.lent = lent;
-    next
-}
-
-fn sent(rt: &impl Print, card: Card, bytes: Bytes) -> io::Result<Card> {
-    let values = bytes.values;
-    card::send(rt, card, &values, bytes.count)
-}
-
-fn shown_buffer(rt: &impl Print, card: Card, bytes: Bytes) -> io::Result<Card> {
-    let buf = card.buf;
-    show::part(rt, &buf, bytes)?;
-    Ok(card)
-}
-
-fn shown_image(rt: &impl Print, card: Card, bytes: Bytes) -> io::Result<Card> {
-    let image = card.image;
-    show::part(rt, &image, bytes)?;
-    Ok(card)
-}
-
-fn shown_record(rt: &impl Print, card: Card, bytes: Bytes) -> io::Result<Card> {
-    let state = card.state;
-    show::part(rt, &state, bytes)?;
-    Ok(card)
-}
-
-pub fn obey(rt: &impl Print, card: Card, line: &[u8]) -> io::Result<Card> {
+pub fn obey(rt: &impl Print, card: &mut Card, line: &[u8]) -> io::Result<()> {
     if show::said(rt, line)? {
-        return Ok(card);
+        return Ok(());
     }
-    let letter = letter_of(line);
-    let bytes = bytes_of(line);
-    match letter {
-        b'n' => Ok(card::plate()),
-        b'f' => Ok(card::renew(card, false)),
-        b'c' => Ok(card::renew(card, true)),
-        b'p' => sent(rt, card, bytes),
-        b'i' => Ok(store_in_image(card, bytes)),
-        b'r' => Ok(store_in_record(card, bytes)),
-        b'd' => Ok(store_in_buffer(card, bytes)),
-        b'l' => Ok(with_room(card, bytes)),
-        b'm' => Ok(with_image(card, bytes)),
-        b'x' => shown_buffer(rt, card, bytes),
-        b'y' => shown_image(rt, card, bytes),
-        b'w' => shown_record(rt, card, bytes),
-        _ => Ok(card),
+    let Some((letter, spelled)) = line.split_first() else {
+        return Ok(());
+    };
+    let read = bytes_of(spelled);
+    let bytes = read.as_slice();
+    match *letter {
+        b'n' => *card = Card::plate(),
+        b'f' => tapecard_fresh(&mut card.state),
+        b'c' => tapecard_change(&mut card.state),
+        b'p' => card.send(rt, bytes)?,
+        b'i' => store(&mut card.image, bytes),
+        b'r' => store(&mut card.state, bytes),
+        b'd' => store(&mut card.buf, bytes),
+        b'l' => card.room = place_of(bytes),
+        b'm' => card.lent = place_of(bytes),
+        b'x' => show_part(rt, &card.buf, bytes)?,
+        b'y' => show_part(rt, &card.image, bytes)?,
+        b'w' => show_part(rt, &card.state, bytes)?,
+        _ => {}
     }
+    Ok(())
 }

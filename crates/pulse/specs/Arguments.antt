@@ -1,11 +1,8 @@
 -- Step 2 of a train: an argument.
 -- Assumes nothing.
-use Rattle.std.specs.Prelude.{ℕ, ◌+◌, ◌||◌, if◌then◌else◌}
+use Rattle.std.specs.Prelude.{ℕ, ◌+◌, ◌||◌, if◌then◌else◌, Option, Some, None}
 use Rattle.numbers.specs.Choice.{◌≡ᵇ◌, ◌<ᵇ◌}
-use Rattle.pulse_codes.specs.declared.arguments.Nibble.{Nibble}
-use Rattle.pulse_codes.specs.declared.arguments.Nibble.TheVariants.{Value, OutOfRange}
 use Rattle.pulse_codes.specs.declared.arguments.Waiting.{Waiting}
-use Rattle.pulse_codes.specs.declared.arguments.Waiting.TheVariants.{Nothing, For}
 use Rattle.pulse_codes.specs.Arguments.{joined, needed, nibble_of}
 use Rattle.pulse_codes.specs.Codes.{seek_track, select_rate, skip_reverse, skip_extended_reverse}
 use Rattle.pulse_codes.specs.Errors.{illegal_track}
@@ -29,7 +26,7 @@ skipped d code count =
 -- one nibble more of a skip's N: its last is obeyed
 unfoldable pub nibble_taken : Drive → ℕ → ℕ → ℕ → ℕ → Drive
 nibble_taken d code held low nibble =
-    if held + 1 <ᵇ needed code then with_waiting d (For code (held + 1) (joined low held nibble)) else
+    if held + 1 <ᵇ needed code then with_waiting d (Some record { code = code; held = held + 1; value = joined low held nibble }) else
     skipped (without_arguments d) code (joined low held nibble)
 
 -- the argument of `code` after the `held` ones, whose value is `low`
@@ -40,16 +37,16 @@ argument_taken d code held low value =
     nibble_taken d code held low value
 
 -- 01: "beyond that the list is dropped, no error"
-abbrev pub argument_or : Drive → ℕ → ℕ → ℕ → Nibble → Drive
-argument_or d code held low (Value value) = argument_taken d code held low value
-argument_or d code held low OutOfRange = without_arguments d
+abbrev pub argument_or : Drive → ℕ → ℕ → ℕ → Option ℕ → Drive
+argument_or d code held low (Some value) = argument_taken d code held low value
+argument_or d code held low None = without_arguments d
 
 unfoldable pub argument_read : Drive → ℕ → ℕ → ℕ → ℕ → Drive
 argument_read d code held low n = argument_or d code held low (nibble_of code n)
 
-abbrev pub argument_for : Waiting → Drive → ℕ → Drive
-argument_for Nothing d n = d
-argument_for (For code held low) d n = argument_read d code held low n
+abbrev pub argument_for : Option Waiting → Drive → ℕ → Drive
+argument_for None d n = d
+argument_for (Some w) d n = argument_read d w.code w.held w.value n
 
 -- 01: "2. Argument waiting: its value is n - 2."
 unfoldable pub step_argument : Drive → ℕ → Drive

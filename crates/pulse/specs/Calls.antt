@@ -1,10 +1,11 @@
 -- The public calls, with their refusals. 01: "Pulse order: 8, then 7 or 5, then 6."
 -- Assumes nothing.
-use Rattle.std.specs.Prelude.{ℕ, false, not, ◌&&◌, ◌≡◌, if◌then◌else◌}
+use Rattle.std.specs.Prelude.{ℕ, Bool, false, not, ◌&&◌, ◌≡◌, if◌then◌else◌, Result, Ok, Err}
 use Rattle.numbers.specs.Choice.{◌≡ᵇ◌, ◌≤ᵇ◌}
+use Rattle.numbers.specs.declared.refusals.Refusal.{Refusal}
+use Rattle.numbers.specs.Refusals.{number_of}
 use Rattle.pulse_parts.specs.declared.cartridge.Cartridge.{Cartridge}
-use Rattle.pulse.specs.declared.calls.Step.{Step}
-use Rattle.pulse.specs.declared.calls.Waited.{Waited}
+use Rattle.pulse.specs.declared.calls.Waited.{Waited as Passed}
 use Rattle.pulse.specs.declared.drive.Drive.{Drive}
 use Rattle.pulse.specs.Drives.{power_on}
 use Rattle.pulse.specs.Events.{inserted, removed, run_for, steps_to}
@@ -32,12 +33,30 @@ already_so = 7
 abbrev pub rules_broken : ℕ
 rules_broken = 8
 
+-- what a call tells: its number, the level, and the record that it leaves
+pub record Step : Type 0 where
+  pub number : ℕ
+  pub level : Bool
+  pub drive : Drive
+
+-- the same of a wait, with its ticks
+pub record Waited : Type 0 where
+  pub number : ℕ
+  pub level : Bool
+  pub ticks : ℕ
+  pub drive : Drive
+
 -- 01: "A refusal returns its number, .. (pulse calls: level 0, 0 ticks), and alters nothing"
 abbrev pub refused : Drive → ℕ → Step
 refused d number = record { number = number; level = false; drive = d }
 
 abbrev pub accepted : Drive → Step
 accepted d = record { number = not_refused; level = d.level; drive = d }
+
+-- what the result of a call on d tells: the next drive, or why d stays
+abbrev pub told : Drive → Result Drive Refusal → Step
+told d (Ok next) = accepted next
+told d (Err refusal) = refused d (number_of refusal)
 
 unfoldable pub train_call : Drive → ℕ → Step
 train_call d n =
@@ -68,6 +87,10 @@ refused_wait d number = record { number = number; level = false; ticks = 0; driv
 
 abbrev pub accepted_wait : ℕ → Drive → Waited
 accepted_wait ticks d = record { number = not_refused; level = d.level; ticks = ticks; drive = d }
+
+abbrev pub told_wait : Drive → Result Passed Refusal → Waited
+told_wait d (Ok passed) = accepted_wait passed.ticks passed.drive
+told_wait d (Err refusal) = refused_wait d (number_of refusal)
 
 -- 01: "A wait call ticks until ready or a limit, and its answer counts the ticks"
 unfoldable pub wait_call : Drive → ℕ → Waited

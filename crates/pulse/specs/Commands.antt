@@ -1,8 +1,7 @@
 -- Step 7 of a train: the other commands.
 -- Assumes nothing.
-use Rattle.std.specs.Prelude.{ℕ, not, ◌&&◌, ◌||◌, if◌then◌else◌}
+use Rattle.std.specs.Prelude.{ℕ, not, ◌&&◌, ◌||◌, if◌then◌else◌, Some}
 use Rattle.numbers.specs.Choice.{◌≡ᵇ◌}
-use Rattle.pulse_codes.specs.declared.arguments.Waiting.TheVariants.{For}
 use Rattle.pulse_codes.specs.Codes.{pause, stop_tape, logical_forward, physical_forward, physical_reverse, seek_load_point}
 use Rattle.pulse_codes.specs.Codes.{needs_cartridge, needs_reference, stops_motion}
 use Rattle.pulse_codes.specs.Errors.{cartridge_missing, new_cartridge_pending, not_ready, not_referenced}
@@ -19,7 +18,7 @@ obeyed d n =
     if (n ≡ᵇ logical_forward) || (n ≡ᵇ physical_forward) then run_started d d.cart.segments else
     if n ≡ᵇ physical_reverse then run_started d 0 else
     if n ≡ᵇ seek_load_point then load_started d else
-    with_waiting d (For n 0 0)
+    with_waiting d (Some record { code = n; held = 0; value = 0 })
 
 -- 01: "Held error: rejected, it stays. New mark: 13. No cartridge (10-14, skips): 2. Not referenced (10, 13, skips): 19."
 unfoldable pub checked : Drive → ℕ → Drive

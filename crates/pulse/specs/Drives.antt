@@ -1,8 +1,7 @@
 -- The drive record: at power-on, and with one part replaced.
 -- Assumes nothing.
-use Rattle.std.specs.Prelude.{ℕ, Bool, false}
+use Rattle.std.specs.Prelude.{ℕ, Bool, false, Option, None}
 use Rattle.pulse_codes.specs.declared.arguments.Waiting.{Waiting}
-use Rattle.pulse_codes.specs.declared.arguments.Waiting.TheVariants.{Nothing}
 use Rattle.pulse_parts.specs.declared.cartridge.Cartridge.{Cartridge}
 use Rattle.pulse_parts.specs.declared.fault.Fault.{Fault}
 use Rattle.pulse_parts.specs.declared.head.Head.{Head}
@@ -28,7 +27,7 @@ power_on vendor rom =
       marks = no_marks;
       fault = power_on_fault;
       report = no_report;
-      waiting = Nothing;
+      waiting = None;
       rate = power_on_rate;
       level = false;
       vendor = vendor;
@@ -40,7 +39,7 @@ abbrev pub is_ready : Drive → Bool
 is_ready d = is_still d.head.motion
 
 -- a drive of its ten parts
-abbrev pub drive_of : Cartridge → Head → Marks → Fault → Report → Waiting → ℕ → Bool → ℕ → ℕ → Drive
+abbrev pub drive_of : Cartridge → Head → Marks → Fault → Report → Option Waiting → ℕ → Bool → ℕ → ℕ → Drive
 drive_of cart head marks fault report waiting rate level vendor rom =
     record {
       cart = cart;
@@ -70,11 +69,11 @@ with_fault d error command =
 abbrev pub with_report : Drive → Report → Drive
 with_report d x = drive_of d.cart d.head d.marks d.fault x d.waiting d.rate d.level d.vendor d.rom
 
-abbrev pub with_waiting : Drive → Waiting → Drive
+abbrev pub with_waiting : Drive → Option Waiting → Drive
 with_waiting d x = drive_of d.cart d.head d.marks d.fault d.report x d.rate d.level d.vendor d.rom
 
 abbrev pub without_arguments : Drive → Drive
-without_arguments d = with_waiting d Nothing
+without_arguments d = with_waiting d None
 
 abbrev pub with_rate : Drive → ℕ → Drive
 with_rate d x = drive_of d.cart d.head d.marks d.fault d.report d.waiting x d.level d.vendor d.rom

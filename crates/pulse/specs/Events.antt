@@ -1,7 +1,6 @@
 -- Insertion, removal, and time that passes.
 -- Assumes nothing.
-use Rattle.std.specs.Prelude.{ℕ, zero, suc, if◌then◌else◌}
-use Rattle.pulse_codes.specs.declared.arguments.Waiting.TheVariants.{Nothing}
+use Rattle.std.specs.Prelude.{ℕ, zero, suc, if◌then◌else◌, None}
 use Rattle.pulse_codes.specs.Errors.{cartridge_missing}
 use Rattle.pulse_parts.specs.declared.cartridge.Cartridge.{Cartridge}
 use Rattle.pulse_parts.specs.declared.head.Head.{Head}
@@ -17,7 +16,7 @@ use Rattle.pulse.specs.Motions.{latched, load_started, ticked}
 
 -- another cartridge, or none. 01: "Both drop report and arguments, and forget that status was asked."
 abbrev pub exchanged : Drive → Cartridge → Head → Marks → Drive
-exchanged d cart head marks = drive_of cart head marks d.fault no_report Nothing d.rate d.level d.vendor d.rom
+exchanged d cart head marks = drive_of cart head marks d.fault no_report None d.rate d.level d.vendor d.rom
 
 -- 01: "Insertion: S as described, track 0, new mark, load starts."
 unfoldable pub inserted : Drive → Cartridge → ℕ → Drive

@@ -5,9 +5,8 @@ use Rattle.numbers.specs.Choice.{◌<ᵇ◌}
 use Rattle.numbers.specs.Flags.{weight_of}
 use Rattle.numbers.specs.Member.{is_in}
 use Rattle.numbers.specs.Over.{over}
-use Rattle.pulse.specs.declared.calls.Step.{Step}
 use Rattle.pulse.specs.declared.drive.Drive.{Drive}
-use Rattle.pulse.specs.Calls.{accepted, empty_train, refused, rules_broken}
+use Rattle.pulse.specs.Calls.{Step, accepted, empty_train, refused, rules_broken}
 use Rattle.pulse.specs.Rules.{keeps_rules}
 use Rattle.pulse.specs.Train.{train_step}
 

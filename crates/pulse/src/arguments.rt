@@ -1,11 +1,10 @@
 // Step 2 of a train: an argument.
 ghost use Rattle.std.specs.Prelude.{◌≡◌, true, ◌≤◌};
 ghost use Rattle.pulse_codes.specs.Arguments.{in_range, highest_nibble};
-ghost use Rattle.pulse.specs.Arguments.{track_sought, skipped, nibble_taken, argument_taken, step_argument};
+ghost use Rattle.pulse.specs.Arguments.{track_sought, skipped, nibble_taken, argument_taken, argument_read, step_argument};
 
 use crate::drive::Drive;
-use pulse_codes::{Nibble, Waiting, arguments, codes, errors};
-use pulse_parts::head;
+use pulse_codes::{Waiting, arguments, codes, errors};
 
 impl Drive {
     #[tactic(auto, unfolding(crate::specs::Arguments::track_sought))]
@@ -13,7 +12,7 @@ impl Drive {
         ensures { result ≡ track_sought self track }
     {
         if track < self.cart.tracks as u16 {
-            return self.with_head(head::on_track(self.head, track as u8));
+            return self.with_head(self.head.on_track(track as u8));
         }
         self.latch(errors::ILLEGAL_TRACK, codes::SEEK_TRACK as u8)
     }
@@ -22,64 +21,63 @@ impl Drive {
     fn skip(self, code: u8, count: u16) -> Self
         ensures { result ≡ skipped self code count }
     {
-        match code {
-            // skips in reverse
-            25 | 34 => self.start_run(head::skip_back(self.head.place, count)),
-            _ => self.start_run(head::skip_on(self.head.place, self.cart.segments, count)),
-        }
+        let target = match code as u16 {
+            codes::SKIP_REVERSE | codes::SKIP_EXTENDED_REVERSE => self.head.skip_back(count),
+            _ => self.head.skip_on(self.cart.segments, count),
+        };
+        self.start_run(target)
     }
 
     #[tactic(auto, unfolding(crate::specs::Arguments::nibble_taken))]
-    fn take_nibble(self, code: u8, held: u8, low: u16, value: u16) -> Self
-        requires { value ≤ highest_nibble }
-        ensures { result ≡ nibble_taken self code held low value }
+    fn take_nibble(self, w: Waiting, nibble: u16) -> Self
+        requires { nibble ≤ highest_nibble }
+        ensures { result ≡ nibble_taken self w.code w.held w.value nibble }
     {
-        let sum = arguments::join_nibble(low, held, value);
-        let need = arguments::needed_arguments(code);
-        let more = held as u16 + 1 < need as u16;
+        let value = w.join(nibble);
+        let more = w.held as u16 + 1 < arguments::needed_arguments(w.code) as u16;
         if more {
-            let next = Waiting::For {
-                code: code,
-                held: held + 1,
-                value: sum,
-            };
-            return self.with_waiting(next);
+            return self.with_waiting(Some(Waiting {
+                held: w.held + 1,
+                value,
+                ..w
+            }));
         }
-        self.with_waiting(Waiting::Nothing).skip(code, sum)
+        self.with_waiting(None).skip(w.code, value)
     }
 
     #[tactic(auto, unfolding(crate::specs::Arguments::argument_taken))]
-    fn take_argument(self, code: u8, held: u8, low: u16, value: u16) -> Self
-        requires { in_range code value ≡ true }
-        ensures { result ≡ argument_taken self code held low value }
+    fn take_argument(self, w: Waiting, value: u16) -> Self
+        requires { in_range w.code value ≡ true }
+        ensures { result ≡ argument_taken self w.code w.held w.value value }
     {
-        match code {
-            // seek track
-            13 => self.with_waiting(Waiting::Nothing).seek_track(value),
-            // select rate
-            27 => {
-                let rate = value as u8;
-                let mut d = self.with_waiting(Waiting::Nothing);
-                d.rate = rate;
-                d
-            }
-            _ => self.take_nibble(code, held, low, value),
+        match w.code as u16 {
+            codes::SEEK_TRACK => self.with_waiting(None).seek_track(value),
+            codes::SELECT_RATE => Drive {
+                rate: value as u8,
+                waiting: None,
+                ..self
+            },
+            _ => self.take_nibble(w, value),
         }
     }
 
-    #[tactic(auto, unfolding(crate::specs::Arguments::step_argument, crate::specs::Arguments::argument_read))]
+    #[tactic(auto, unfolding(crate::specs::Arguments::argument_read), using(pulse_codes::proofs::ArgumentLaws::value_in_range))]
+    fn read_argument(self, w: Waiting, n: u16) -> Self
+        ensures { result ≡ argument_read self w.code w.held w.value n }
+    {
+        let Some(value) = arguments::read_nibble(w.code, n) else {
+            return self.with_waiting(None);
+        };
+        self.take_argument(w, value)
+    }
+
+    #[tactic(auto, unfolding(crate::specs::Arguments::step_argument))]
     pub(crate) fn step_argument(self, n: u16) -> Self
         ensures { result ≡ step_argument self n }
     {
-        let w = self.waiting;
-        match w {
-            Waiting::Nothing => self,
-            Waiting::For { code, held, value } => {
-                let Nibble::Value(nibble) = arguments::read_nibble(code, n) else {
-                    return self.with_waiting(Waiting::Nothing);
-                };
-                self.take_argument(code, held, value, nibble)
-            }
+        match self.waiting {
+            Some(w) => self.read_argument(w, n),
+            None => self,
         }
     }
 }

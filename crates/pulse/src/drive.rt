@@ -4,16 +4,16 @@ ghost use Rattle.pulse.specs.Calls.{PowerOnPromise};
 ghost use Rattle.pulse.specs.Drives.{is_ready, with_head, with_marks, with_fault, with_report, with_waiting, with_level};
 
 use pulse_codes::Waiting;
-use pulse_parts::{Cartridge, Fault, Head, Marks, Report, cartridge, fault, head, marks, reports};
+use pulse_parts::{Cartridge, Fault, Head, Marks, Report};
 
-#[derive(Clone, Copy)]
+#[derive(Clone, Copy, PartialEq, Eq)]
 pub struct Drive {
     pub cart: Cartridge,
     pub head: Head,
     pub marks: Marks,
     pub fault: Fault,
     pub report: Report,
-    pub waiting: Waiting,
+    pub waiting: Option<Waiting>,
     pub rate: u8,
     pub level: bool,
     pub vendor: u16,
@@ -35,91 +35,62 @@ impl Drive {
     pub fn power_on(vendor: u16, rom: u8) -> Self
         ensures { PowerOnPromise vendor rom result }
     {
-        let cart = cartridge::no_cartridge();
-        let head = head::standing_at(0);
-        let marks = marks::no_marks();
-        let report = reports::no_report();
-        let fault = fault::power_on_fault();
         Drive {
-            cart: cart,
-            head: head,
-            marks: marks,
-            fault: fault,
-            report: report,
-            waiting: Waiting::Nothing,
+            cart: Cartridge::none(),
+            head: Head::standing_at(0),
+            marks: Marks::none(),
+            fault: Fault::at_power_on(),
+            report: Report::none(),
+            waiting: None,
             rate: Drive::POWER_ON_RATE,
             level: false,
-            vendor: vendor,
-            rom: rom,
+            vendor,
+            rom,
         }
     }
 
     pub(crate) fn is_ready(self) -> bool
         ensures { result ≡ is_ready self }
     {
-        head::stands(self.head)
+        self.head.stands()
     }
 
     pub(crate) fn with_head(self, head: Head) -> Self
         ensures { result ≡ with_head self head }
     {
-        let mut d = self;
-        d.head = head;
-        d
+        Drive { head, ..self }
     }
 
     pub(crate) fn with_marks(self, marks: Marks) -> Self
         ensures { result ≡ with_marks self marks }
     {
-        let mut d = self;
-        d.marks = marks;
-        d
+        Drive { marks, ..self }
     }
 
     pub(crate) fn with_fault(self, error: u8, command: u8) -> Self
         ensures { result ≡ with_fault self error command }
     {
-        let mut d = self;
-        d.fault.error = error;
-        d.fault.command = command;
-        d
+        Drive {
+            fault: Fault { error, command },
+            ..self
+        }
     }
 
     pub(crate) fn with_report(self, report: Report) -> Self
         ensures { result ≡ with_report self report }
     {
-        let mut d = self;
-        d.report = report;
-        d
+        Drive { report, ..self }
     }
 
     pub(crate) fn with_level(self, level: bool) -> Self
         ensures { result ≡ with_level self level }
     {
-        let mut d = self;
-        d.level = level;
-        d
+        Drive { level, ..self }
     }
 
-    pub(crate) fn with_waiting(self, waiting: Waiting) -> Self
+    pub(crate) fn with_waiting(self, waiting: Option<Waiting>) -> Self
         ensures { result ≡ with_waiting self waiting }
     {
-        let cart = self.cart;
-        let head = self.head;
-        let marks = self.marks;
-        let fault = self.fault;
-        let report = self.report;
-        Drive {
-            cart: cart,
-            head: head,
-            marks: marks,
-            fault: fault,
-            report: report,
-            waiting: waiting,
-            rate: self.rate,
-            level: self.level,
-            vendor: self.vendor,
-            rom: self.rom,
-        }
+        Drive { waiting, ..self }
     }
 }

@@ -12,5 +12,5 @@ mod events; // events.rt: insertion, removal, waiting
 pub mod calls; // calls.rt: the public calls and their refusals
 mod trains; // trains.rt: a list of trains in one call
 
-pub use calls::{Step, Waited};
+pub use calls::Waited;
 pub use drive::Drive;

@@ -3,20 +3,19 @@ ghost use Rattle.std.specs.Prelude.{◌≡◌};
 ghost use Rattle.pulse.specs.Motions.{stopped, load_ended, load_started, run_started, latched, motion_ended, arrived, ticked};
 
 use crate::drive::Drive;
-use pulse_codes::Waiting;
-use pulse_parts::{Motion, fault, head};
+use pulse_parts::{Head, Motion};
 
 impl Drive {
     pub(crate) fn stop(self) -> Self
         ensures { result ≡ stopped self }
     {
-        self.with_head(head::held_at(self.head))
+        self.with_head(self.head.held())
     }
 
     pub(crate) fn end_load(self) -> Self
         ensures { result ≡ load_ended self }
     {
-        let mut d = self.with_head(head::standing_at(0));
+        let mut d = self.with_head(Head::standing_at(0));
         d.marks.referenced = self.cart.burst;
         d
     }
@@ -28,7 +27,7 @@ impl Drive {
         if self.head.place == 0 {
             return self.end_load();
         }
-        self.with_head(head::headed_for(self.head, 0, Motion::Load))
+        self.with_head(self.head.headed_for(0, Motion::Load))
     }
 
     #[tactic(auto, unfolding(crate::specs::Motions::run_started))]
@@ -38,17 +37,17 @@ impl Drive {
         if self.head.place == target {
             return self.stop();
         }
-        self.with_head(head::headed_for(self.head, target, Motion::Run))
+        self.with_head(self.head.headed_for(target, Motion::Run))
     }
 
     #[tactic(auto, unfolding(crate::specs::Motions::latched))]
     pub(crate) fn latch(self, error: u8, command: u8) -> Self
         ensures { result ≡ latched self error command }
     {
-        if fault::is_held(self.fault) {
+        if self.fault.is_held() {
             return self;
         }
-        if head::runs(self.head) {
+        if self.head.runs() {
             return self.with_fault(error, command).stop();
         }
         self.with_fault(error, command)
@@ -57,9 +56,7 @@ impl Drive {
     fn end_motion(self) -> Self
         ensures { result ≡ motion_ended self.head.motion self }
     {
-        let h = self.head;
-        let m = h.motion;
-        match m {
+        match self.head.motion {
             Motion::Still => self,
             Motion::Run => self.stop(),
             Motion::Load => self.end_load(),
@@ -70,7 +67,7 @@ impl Drive {
     fn arrive(self) -> Self
         ensures { result ≡ arrived self }
     {
-        if head::is_on_target(self.head) {
+        if self.head.is_on_target() {
             return self.end_motion();
         }
         self
@@ -81,10 +78,10 @@ impl Drive {
         ensures { result ≡ ticked self }
     {
         if self.is_ready() {
-            return self.with_waiting(Waiting::Nothing);
+            return self.with_waiting(None);
         }
-        self.with_waiting(Waiting::Nothing)
-            .with_head(head::moved(self.head))
+        self.with_waiting(None)
+            .with_head(self.head.moved())
             .arrive()
     }
 }

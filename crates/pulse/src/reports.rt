@@ -4,7 +4,7 @@ ghost use Rattle.pulse.specs.Reports.{item_given, step_report, report_of, status
 
 use crate::drive::Drive;
 use pulse_codes::{codes, errors};
-use pulse_parts::{Report, fault, head, marks, reports};
+use pulse_parts::{Fault, Report, reports};
 
 impl Drive {
     #[tactic(auto, unfolding(crate::specs::Reports::item_given))]
@@ -12,10 +12,10 @@ impl Drive {
         ensures { result ≡ item_given self }
     {
         if self.report.repeat {
-            return self.with_report(reports::owing(self.report, false));
+            return self.with_report(self.report.owing(false));
         }
-        self.with_report(reports::items_left(self.report))
-            .with_level(reports::item_level(self.report))
+        self.with_report(self.report.items_left())
+            .with_level(self.report.item_level())
     }
 
     #[tactic(auto, unfolding(crate::specs::Reports::step_report))]
@@ -26,9 +26,9 @@ impl Drive {
             return self.give_item();
         }
         if codes::is_ignored(n) {
-            return self.with_report(reports::owing(self.report, true));
+            return self.with_report(self.report.owing(true));
         }
-        self.with_report(reports::no_report())
+        self.with_report(Report::none())
             .with_level(false)
             .latch(errors::ILLEGAL_IN_REPORT, codes::as_byte(n))
     }
@@ -38,22 +38,17 @@ impl Drive {
         ensures { result ≡ report_of self n }
     {
         match n {
-            // status
-            6 => reports::report_of_8(reports::status_bits(
+            codes::REPORT_STATUS => Report::of_byte(reports::status_bits(
                 self.head, self.fault, self.marks, self.cart,
             )),
-            // error
-            7 => reports::report_of_16(reports::error_bits(self.fault)),
-            // configuration
-            8 => reports::report_of_8(reports::configuration_bits(
+            codes::REPORT_ERROR => Report::of_word(reports::error_bits(self.fault)),
+            codes::REPORT_CONFIGURATION => Report::of_byte(reports::configuration_bits(
                 self.rate, self.marks, self.cart,
             )),
-            // ROM
-            9 => reports::report_of_8(self.rom as u16),
-            // vendor
-            32 => reports::report_of_16(self.vendor),
-            // 33, tape
-            _ => reports::report_of_8(reports::tape_bits(self.marks, self.cart)),
+            codes::REPORT_ROM => Report::of_byte(self.rom as u16),
+            codes::REPORT_VENDOR => Report::of_word(self.vendor),
+            // the tape report, 33
+            _ => Report::of_byte(reports::tape_bits(self.marks, self.cart)),
         }
     }
 
@@ -62,7 +57,7 @@ impl Drive {
         ensures { result ≡ status_asked self }
     {
         if self.is_ready() {
-            return self.with_marks(marks::asked(self.marks));
+            return self.with_marks(self.marks.after_asking());
         }
         self
     }
@@ -71,10 +66,10 @@ impl Drive {
     fn read_error(self) -> Self
         ensures { result ≡ error_read self }
     {
-        if head::stands(self.head) {
+        if self.head.stands() {
             return self
-                .with_fault(errors::NO_ERROR, fault::NO_COMMAND)
-                .with_marks(marks::after_reading(self.marks));
+                .with_fault(errors::NO_ERROR, Fault::NO_COMMAND)
+                .with_marks(self.marks.after_reading());
         }
         self
     }
@@ -85,10 +80,8 @@ impl Drive {
     {
         let d = self.with_report(self.report_of(n)).with_level(true);
         match n {
-            // status
-            6 => d.ask_status(),
-            // error
-            7 => d.read_error(),
+            codes::REPORT_STATUS => d.ask_status(),
+            codes::REPORT_ERROR => d.read_error(),
             _ => d,
         }
     }

@@ -5,15 +5,13 @@ ghost use Rattle.pulse.specs.Rules.{in_ranges, head_inside, nothing_inside, cart
 
 use crate::drive::Drive;
 use pulse_codes::{arguments, errors};
-use pulse_parts::{Cartridge, Fault, Head, Marks, Report, cartridge, fault, head, reports};
+use pulse_parts::{Cartridge, Fault, Head, Marks, Report};
 
-pub(crate) fn in_ranges(c: Cartridge) -> bool
+fn in_ranges(c: Cartridge) -> bool
     ensures { result ≡ in_ranges c }
 {
-    (1 <= c.segments)
-        & (c.segments <= Drive::MAX_SEGMENTS)
-        & (1 <= c.tracks)
-        & (c.tracks <= Drive::MAX_TRACKS)
+    (1..=Drive::MAX_SEGMENTS).contains(&c.segments)
+        & (1..=Drive::MAX_TRACKS).contains(&c.tracks)
         & (c.format <= Drive::MAX_FORMAT)
         & (c.kind <= Drive::MAX_KIND)
 }
@@ -33,12 +31,7 @@ fn head_inside(c: Cartridge, h: Head) -> bool
 fn nothing_inside(c: Cartridge, h: Head, m: Marks) -> bool
     ensures { result ≡ nothing_inside c h m }
 {
-    cartridge::is_none(c)
-        & (h.place == 0)
-        & (h.target == 0)
-        & (h.track == 0)
-        & !m.referenced
-        & !m.fresh
+    c.is_none() & (h.place == 0) & (h.target == 0) & (h.track == 0) & !m.referenced & !m.fresh
 }
 
 #[tactic(auto, unfolding(crate::specs::Rules::cartridge_fits))]
@@ -54,13 +47,13 @@ fn cartridge_fits(c: Cartridge, h: Head, m: Marks) -> bool
 fn is_free(r: Report, h: Head, f: Fault, m: Marks) -> bool
     ensures { result ≡ is_free r h f m }
 {
-    !reports::is_open(r) & head::stands(h) & !fault::is_held(f) & !m.fresh
+    !r.is_open() & h.stands() & !f.is_held() & !m.fresh
 }
 
 fn held_error_fits(f: Fault, h: Head) -> bool
     ensures { result ≡ held_error_fits f h }
 {
-    !fault::is_held(f) | !head::runs(h)
+    !f.is_held() | !h.runs()
 }
 
 impl Drive {
@@ -68,15 +61,13 @@ impl Drive {
     pub(crate) fn breaks_rules(self) -> bool
         ensures { result ≡ not (keeps_rules self) }
     {
-        let w = self.waiting;
-        let rate = self.rate as u16;
         let free = is_free(self.report, self.head, self.fault, self.marks);
         !(cartridge_fits(self.cart, self.head, self.marks)
-            & head::head_fits(self.head)
-            & (rate <= arguments::HIGHEST_RATE)
+            & self.head.fits()
+            & (self.rate as u16 <= arguments::HIGHEST_RATE)
             & errors::is_admitted(self.fault.error)
-            & reports::report_fits(self.report)
-            & arguments::waiting_fits(w, free, self.marks.referenced)
+            & self.report.fits()
+            & arguments::waiting_fits(self.waiting, free, self.marks.referenced)
             & held_error_fits(self.fault, self.head))
     }
 }

@@ -3,17 +3,23 @@ ghost use Rattle.std.specs.Prelude.{◌≡◌};
 ghost use Rattle.pulse.specs.Train.{cleared, step_reset, step_unsupported, train_step};
 
 use crate::drive::Drive;
-use pulse_codes::{Waiting, arguments, codes, errors};
-use pulse_parts::{marks, reports};
+use pulse_codes::{codes, errors};
+use pulse_parts::{Fault, Report};
 
 impl Drive {
     fn clear(self) -> Self
         ensures { result ≡ cleared self }
     {
-        self.with_waiting(Waiting::Nothing)
-            .with_report(reports::no_report())
-            .with_fault(errors::SOFTWARE_RESET, codes::SOFT_RESET as u8)
-            .with_marks(marks::forgotten(self.marks))
+        Drive {
+            waiting: None,
+            report: Report::none(),
+            fault: Fault {
+                error: errors::SOFTWARE_RESET,
+                command: codes::SOFT_RESET as u8,
+            },
+            marks: self.marks.forgotten(),
+            ..self
+        }
     }
 
     #[tactic(auto, unfolding(crate::specs::Train::step_reset))]
@@ -31,8 +37,7 @@ impl Drive {
         ensures { result ≡ step_unsupported self n }
     {
         if n < codes::REPORT_VENDOR {
-            let command = codes::as_byte(n);
-            return self.latch(errors::UNDEFINED_COMMAND, command);
+            return self.latch(errors::UNDEFINED_COMMAND, codes::as_byte(n));
         }
         self
     }
@@ -44,11 +49,10 @@ impl Drive {
         if n == codes::SOFT_RESET {
             return self.step_reset();
         }
-        let w = self.waiting;
-        if arguments::is_waiting(w) {
+        if self.waiting.is_some() {
             return self.step_argument(n);
         }
-        if reports::is_open(self.report) {
+        if self.report.is_open() {
             return self.step_report(n);
         }
         if n == codes::REPORT_NEXT_BIT {

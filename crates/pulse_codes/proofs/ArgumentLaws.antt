@@ -1,13 +1,12 @@
--- What an argument is known to be once it was read.
+-- What an argument is known to be once it was read, and which codes take none.
 -- Assumes nothing.
 use Prim.Native.Nat.{ℕ, ◌-◌, ◌≤◌}
 use native.Mathlib.Omega.{arith}
 use mathlib.Core.Bool.{Bool, true, false}
 use mathlib.Core.Path.{◌≡◌, refl}
-use borrow.Author.Tests.{ne_eqb, leb-true}
-use Rattle.pulse_codes.specs.Arguments.{needed, in_range, nibble_of, highest_nibble, highest_rate}
-use Rattle.pulse_codes.specs.Codes.{seek_track, select_rate}
-use Rattle.pulse_codes.specs.declared.arguments.Nibble.TheVariants.{Value}
+use Rattle.std.specs.Prelude.{Some}
+use borrow.Author.Tests.{ne_eqb}
+use Rattle.pulse_codes.specs.Arguments.{needed, in_range, nibble_of}
 
 pub needed_none : (code : ℕ) → 36 ≤ code → 0 ≡ needed code
 unfolding needed
@@ -21,17 +20,10 @@ needed_none code h =
       ne_eqb code 35 (λ e. omega arith),
     )
 
-pub value_in_range : (code n value : ℕ) → nibble_of code n ≡ Value value → in_range code value ≡ true
+pub value_in_range : (code n value : ℕ) → nibble_of code n ≡ Some value → in_range code value ≡ true
 unfolding nibble_of
 value_in_range code n value e = by (in_range code (n - 2)) refl
   where
     by : (b : Bool) → in_range code (n - 2) ≡ b → in_range code value ≡ true
     by true q = let v : n - 2 ≡ value = (let p = rw q at e in cc) in rw v at q
     by false q = let p = rw q at e in absurd (let z : ◌≡◌ {A = ℕ} 0 1 = cc in omega arith)
-
-module _ (code value : ℕ) (r : in_range code value ≡ true) where
-  pub rate_in_range : code ≡ select_rate → value ≤ highest_rate
-  rate_in_range e = leb-true _ _ (rw e at r)
-
-  pub nibble_in_range : (code ≡ seek_track → ⊥) → (code ≡ select_rate → ⊥) → value ≤ highest_nibble
-  nibble_in_range t s = leb-true _ _ (rw (ne_eqb _ _ t, ne_eqb _ _ s) at r)

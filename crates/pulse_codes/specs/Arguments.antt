@@ -1,12 +1,9 @@
 -- The arguments of a code.
 -- Assumes nothing.
-use Rattle.std.specs.Prelude.{ℕ, ◌+◌, ◌-◌, ◌*◌, ◌%◌, Bool, true, false, not, ◌&&◌, ◌||◌, if◌then◌else◌}
+use Rattle.std.specs.Prelude.{ℕ, ◌+◌, ◌-◌, ◌*◌, ◌%◌, Bool, true, false, not, ◌&&◌, ◌||◌, if◌then◌else◌, Option, Some, None}
 use Rattle.numbers.specs.Choice.{◌≡ᵇ◌, ◌<ᵇ◌, ◌≤ᵇ◌}
 use Rattle.pulse_codes.specs.Codes.{seek_track, select_rate, skip_reverse, skip_forward, skip_extended_reverse, skip_extended_forward, is_skip}
-use Rattle.pulse_codes.specs.declared.arguments.Nibble.{Nibble}
-use Rattle.pulse_codes.specs.declared.arguments.Nibble.TheVariants.{Value, OutOfRange}
 use Rattle.pulse_codes.specs.declared.arguments.Waiting.{Waiting}
-use Rattle.pulse_codes.specs.declared.arguments.Waiting.TheVariants.{Nothing, For}
 
 -- 000, table 2b: how many arguments a code takes
 unfoldable pub needed : ℕ → ℕ
@@ -30,8 +27,8 @@ in_range code value =
     value ≤ᵇ highest_nibble
 
 -- 01: "its value is n - 2", or out of range
-unfoldable pub nibble_of : ℕ → ℕ → Nibble
-nibble_of code n = if in_range code (n - 2) then Value (n - 2) else OutOfRange
+unfoldable pub nibble_of : ℕ → ℕ → Option ℕ
+nibble_of code n = if in_range code (n - 2) then Some (n - 2) else None
 
 -- 000, table 2b: (N&15), ((N/16)&15), ((N/256)&15): the nibble of argument number `held` joins those held, of which the value is read
 -- modulo 16^held; no code takes more than three
@@ -41,13 +38,13 @@ joined value held nibble =
     if held ≡ᵇ 1 then value % 16 + nibble * 16 else
     value % 256 + nibble * 256
 
-abbrev pub is_waiting : Waiting → Bool
-is_waiting Nothing = false
-is_waiting (For code held value) = true
+abbrev pub is_waiting : Option Waiting → Bool
+is_waiting None = false
+is_waiting (Some w) = true
 
 -- 01: "arguments held fewer than needed; waiting arguments only with no open report, no motion, no error and no new mark, and those
 -- of 13 or a skip only when referenced" (free: no open report, no motion, no error and no new mark)
-abbrev pub waiting_fits : Waiting → Bool → Bool → Bool
-waiting_fits Nothing free referenced = true
-waiting_fits (For code held value) free referenced =
-    (held <ᵇ needed code) && free && (referenced || not ((code ≡ᵇ seek_track) || is_skip code))
+abbrev pub waiting_fits : Option Waiting → Bool → Bool → Bool
+waiting_fits None free referenced = true
+waiting_fits (Some w) free referenced =
+    (w.held <ᵇ needed w.code) && free && (referenced || not ((w.code ≡ᵇ seek_track) || is_skip w.code))

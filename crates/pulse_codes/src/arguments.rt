@@ -1,6 +1,6 @@
 // The arguments of a code: how many it takes, what one train of them says, and how their nibbles join.
-ghost use Rattle.std.specs.Prelude.{◌≡◌, true, ◌-◌, ◌≤◌};
-ghost use Rattle.pulse_codes.specs.Arguments.{needed, in_range, nibble_of, is_waiting, joined, waiting_fits, highest_nibble};
+ghost use Rattle.std.specs.Prelude.{◌≡◌, ◌≤◌, Some};
+ghost use Rattle.pulse_codes.specs.Arguments.{needed, in_range, nibble_of, joined, waiting_fits, highest_nibble};
 
 use crate::codes;
 
@@ -10,16 +10,11 @@ const HIGHEST_NIBBLE: u16 = 15;
 pub const HIGHEST_RATE: u16 = 3;
 
 // The arguments that a code waits for: how many are held, and their value, the first nibble lowest.
-#[derive(Clone, Copy)]
-pub enum Waiting {
-    Nothing,
-    For { code: u8, held: u8, value: u16 },
-}
-
-#[derive(Clone, Copy)]
-pub enum Nibble {
-    Value(u16),
-    OutOfRange,
+#[derive(Clone, Copy, PartialEq, Eq)]
+pub struct Waiting {
+    pub code: u8,
+    pub held: u8,
+    pub value: u16,
 }
 
 // 000, table 2b: how many arguments each code takes, by code.
@@ -32,97 +27,57 @@ pub fn needed_arguments(code: u8) -> u8
     ensures { result ≡ needed code }
 {
     if code < 36 {
-        let i = code as usize;
-        return ARGUMENT_COUNTS[i];
+        return ARGUMENT_COUNTS[code as usize];
     }
     0
-}
-
-pub fn is_waiting(w: Waiting) -> bool
-    ensures { result ≡ is_waiting w }
-{
-    match w {
-        Waiting::Nothing => false,
-        Waiting::For {
-            code: _,
-            held: _,
-            value: _,
-        } => true,
-    }
 }
 
 fn is_in_range(code: u8, value: u16) -> bool
     ensures { result ≡ in_range code value }
 {
-    let n = code as u16;
-    let track = n == codes::SEEK_TRACK;
-    if track {
-        return true;
+    match code as u16 {
+        codes::SEEK_TRACK => true,
+        codes::SELECT_RATE => value <= HIGHEST_RATE,
+        _ => value <= HIGHEST_NIBBLE,
     }
-    let rate = n == codes::SELECT_RATE;
-    if rate {
-        return value <= HIGHEST_RATE;
-    }
-    value <= HIGHEST_NIBBLE
 }
 
-// 01: "its value is n - 2", and 0 below 2.
-fn two_less(n: u16) -> u16
-    ensures { result ≡ n - 2 }
-{
-    if n < 2 {
-        return 0;
-    }
-    n - 2
-}
-
+// 01: "its value is n - 2", and 0 below 2; none where it is out of range.
 #[tactic(auto, unfolding(crate::specs::Arguments::nibble_of))]
-pub fn read_nibble(code: u8, n: u16) -> Nibble
+pub fn read_nibble(code: u8, n: u16) -> Option<u16>
     ensures { result ≡ nibble_of code n }
 {
-    let value = two_less(n);
-    let fits = is_in_range(code, value);
-    if fits {
-        return Nibble::Value(value);
+    let value = n.saturating_sub(2);
+    if is_in_range(code, value) {
+        return Some(value);
     }
-    Nibble::OutOfRange
+    None
 }
 
-// One nibble more above the nibbles held.
-pub fn join_nibble(value: u16, held: u8, nibble: u16) -> u16
-    requires { nibble ≤ highest_nibble }
-    ensures { result ≡ joined value held nibble }
-{
-    let first = held == 0;
-    if first {
-        return nibble;
+impl Waiting {
+    // One nibble more above the nibbles held.
+    pub fn join(self, nibble: u16) -> u16
+        requires { nibble ≤ highest_nibble }
+        ensures { result ≡ joined self.value self.held nibble }
+    {
+        match self.held {
+            0 => nibble,
+            1 => self.value % 16 + nibble * 16,
+            _ => self.value % 256 + nibble * 256,
+        }
     }
-    let second = held == 1;
-    if second {
-        return value % 16 + nibble * 16;
+
+    fn fits(self, free: bool, referenced: bool) -> bool
+        ensures { result ≡ waiting_fits (Some self) free referenced }
+    {
+        let code = self.code as u16;
+        let referring = (code == codes::SEEK_TRACK) | codes::is_skip(code);
+        (self.held < needed_arguments(self.code)) & free & (referenced | !referring)
     }
-    value % 256 + nibble * 256
 }
 
-fn arguments_fit(code: u8, held: u8, free: bool, referenced: bool) -> bool
-    ensures { result ≡ waiting_fits (Waiting.For code held 0) free referenced }
-{
-    let need = needed_arguments(code);
-    let n = code as u16;
-    let track = n == codes::SEEK_TRACK;
-    let skip = codes::is_skip(n);
-    (held < need) & free & (referenced | !(track | skip))
-}
-
-pub fn waiting_fits(w: Waiting, free: bool, referenced: bool) -> bool
+pub fn waiting_fits(w: Option<Waiting>, free: bool, referenced: bool) -> bool
     ensures { result ≡ waiting_fits w free referenced }
 {
-    match w {
-        Waiting::Nothing => true,
-        Waiting::For {
-            code,
-            held,
-            value: _,
-        } => arguments_fit(code, held, free, referenced),
-    }
+    w.is_none_or(|waiting| waiting.fits(free, referenced))
 }

@@ -6,42 +6,53 @@ pub const SOFT_RESET: u16 = 1;
 
 pub const REPORT_NEXT_BIT: u16 = 2;
 
-const PAUSE: u16 = 3;
+pub const PAUSE: u16 = 3;
 
-const REPORT_STATUS: u16 = 6;
+pub const REPORT_STATUS: u16 = 6;
 
-const REPORT_ROM: u16 = 9;
+pub const REPORT_ERROR: u16 = 7;
 
-const LOGICAL_FORWARD: u16 = 10;
+pub const REPORT_CONFIGURATION: u16 = 8;
+
+pub const REPORT_ROM: u16 = 9;
+
+pub const LOGICAL_FORWARD: u16 = 10;
+
+pub const PHYSICAL_REVERSE: u16 = 11;
+
+pub const PHYSICAL_FORWARD: u16 = 12;
 
 pub const SEEK_TRACK: u16 = 13;
 
-const SEEK_LOAD_POINT: u16 = 14;
+pub const SEEK_LOAD_POINT: u16 = 14;
 
-const STOP_TAPE: u16 = 18;
+pub const STOP_TAPE: u16 = 18;
 
-const SKIP_REVERSE: u16 = 25;
+pub const SKIP_REVERSE: u16 = 25;
 
-const SKIP_FORWARD: u16 = 26;
+pub const SKIP_FORWARD: u16 = 26;
 
-pub(crate) const SELECT_RATE: u16 = 27;
+pub const SELECT_RATE: u16 = 27;
 
 pub const REPORT_VENDOR: u16 = 32;
 
-const REPORT_TAPE: u16 = 33;
+pub const REPORT_TAPE: u16 = 33;
 
-const SKIP_EXTENDED_REVERSE: u16 = 34;
+pub const SKIP_EXTENDED_REVERSE: u16 = 34;
 
-const SKIP_EXTENDED_FORWARD: u16 = 35;
+pub const SKIP_EXTENDED_FORWARD: u16 = 35;
 
 fn is_supported(n: u16) -> bool
     ensures { result ≡ supported n }
 {
-    ((SOFT_RESET <= n) & (n <= PAUSE))
-        | ((REPORT_STATUS <= n) & (n <= SEEK_LOAD_POINT))
-        | (n == STOP_TAPE)
-        | ((SKIP_REVERSE <= n) & (n <= SELECT_RATE))
-        | ((REPORT_VENDOR <= n) & (n <= SKIP_EXTENDED_FORWARD))
+    matches!(
+        n,
+        SOFT_RESET..=PAUSE
+            | REPORT_STATUS..=SEEK_LOAD_POINT
+            | STOP_TAPE
+            | SKIP_REVERSE..=SELECT_RATE
+            | REPORT_VENDOR..=SKIP_EXTENDED_FORWARD
+    )
 }
 
 pub fn is_unsupported(n: u16) -> bool
@@ -59,34 +70,34 @@ pub fn is_ignored(n: u16) -> bool
 pub fn is_report(n: u16) -> bool
     ensures { result ≡ is_report n }
 {
-    ((REPORT_STATUS <= n) & (n <= REPORT_ROM)) | (n == REPORT_VENDOR) | (n == REPORT_TAPE)
+    matches!(n, REPORT_STATUS..=REPORT_ROM | REPORT_VENDOR | REPORT_TAPE)
 }
 
 pub(crate) fn is_skip(n: u16) -> bool
     ensures { result ≡ is_skip n }
 {
-    (n == SKIP_REVERSE)
-        | (n == SKIP_FORWARD)
-        | (n == SKIP_EXTENDED_REVERSE)
-        | (n == SKIP_EXTENDED_FORWARD)
+    matches!(
+        n,
+        SKIP_REVERSE | SKIP_FORWARD | SKIP_EXTENDED_REVERSE | SKIP_EXTENDED_FORWARD
+    )
 }
 
 pub fn stops_motion(n: u16) -> bool
     ensures { result ≡ stops_motion n }
 {
-    (n == PAUSE) | (n == STOP_TAPE) | is_skip(n)
+    matches!(n, PAUSE | STOP_TAPE) | is_skip(n)
 }
 
 pub fn needs_cartridge(n: u16) -> bool
     ensures { result ≡ needs_cartridge n }
 {
-    ((LOGICAL_FORWARD <= n) & (n <= SEEK_LOAD_POINT)) | is_skip(n)
+    matches!(n, LOGICAL_FORWARD..=SEEK_LOAD_POINT) | is_skip(n)
 }
 
 pub fn needs_reference(n: u16) -> bool
     ensures { result ≡ needs_reference n }
 {
-    (n == LOGICAL_FORWARD) | (n == SEEK_TRACK) | is_skip(n)
+    matches!(n, LOGICAL_FORWARD | SEEK_TRACK) | is_skip(n)
 }
 
 // A code that the drive hears fits a byte, as the record keeps it.

@@ -5,4 +5,4 @@ pub mod codes; // codes.rt: the pulse codes and what each needs
 pub mod errors; // errors.rt: the error numbers
 pub mod arguments; // arguments.rt: the arguments of a code
 
-pub use arguments::{Nibble, Waiting};
+pub use arguments::Waiting;

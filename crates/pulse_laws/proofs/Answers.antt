@@ -11,10 +11,8 @@ use Rattle.numbers.specs.Choice.{◌≡ᵇ◌, ◌<ᵇ◌}
 use Rattle.numbers.specs.Member.{is_in}
 use Rattle.numbers.proofs.Cases.{settles}
 use Rattle.pulse_parts.specs.declared.cartridge.Cartridge.{Cartridge}
-use Rattle.pulse.specs.declared.calls.Step.{Step}
-use Rattle.pulse.specs.declared.calls.Waited.{Waited}
 use Rattle.pulse.specs.declared.drive.Drive.{Drive}
-use Rattle.pulse.specs.Calls.{already_so, rules_broken, empty_train, insert_call, not_refused, outside_ranges, remove_call}
+use Rattle.pulse.specs.Calls.{Step, Waited, already_so, rules_broken, empty_train, insert_call, not_refused, outside_ranges, remove_call}
 use Rattle.pulse.specs.Calls.{refused, tick_call, train_call, wait_call}
 use Rattle.pulse.specs.Drives.{power_on}
 use Rattle.pulse.specs.Rules.{keeps_rules}

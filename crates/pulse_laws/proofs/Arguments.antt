@@ -5,14 +5,12 @@ use native.Mathlib.Nat.{lt_irrefl}
 use native.Mathlib.Omega.{arith}
 use mathlib.Core.Bool.{true, false, not, ◌||◌, or-false}
 use mathlib.Core.Path.{◌≡◌, refl, sym, ◌∙◌}
+use Rattle.std.specs.Prelude.{Option, Some, None}
 use borrow.Author.Tests.{ltb-true, not-true}
 use Rattle.numbers.specs.Choice.{◌<ᵇ◌, ◌≡ᵇ◌, ◌≤ᵇ◌}
 use Rattle.numbers.specs.Member.{is_in}
 use Rattle.numbers.proofs.Cases.{and_l, and_r, ands, either, never, or_r, test}
-use Rattle.pulse_codes.specs.declared.arguments.Nibble.{Nibble}
-use Rattle.pulse_codes.specs.declared.arguments.Nibble.TheVariants.{OutOfRange, Value}
 use Rattle.pulse_codes.specs.declared.arguments.Waiting.{Waiting}
-use Rattle.pulse_codes.specs.declared.arguments.Waiting.TheVariants.{For, Nothing}
 use Rattle.pulse_codes.specs.Arguments.{highest_rate, in_range, joined, needed, nibble_of}
 use Rattle.pulse_codes.specs.Codes.{is_skip, seek_track, select_rate, skip_extended_forward, skip_extended_reverse, skip_forward, skip_reverse}
 use Rattle.pulse_codes.specs.Errors.{illegal_track}
@@ -36,7 +34,7 @@ skips code held l p q =
     (λ a. test ((code ≡ᵇ skip_extended_reverse) || (code ≡ᵇ skip_extended_forward)) (λ b. rw a b)
     (λ b. absurd (lt_irrefl 0 (omega (arith, ltb-true held 0 (rw (p, q, a, b) at l))))))
 
-module _ (d : Drive) (code held low : ℕ) (r : Calm d) (w : Waits (For code held low) d) where
+module _ (d : Drive) (code held low : ℕ) (r : Calm d) (w : Waits (Some record { code = code; held = held; value = low }) d) where
   lacks : (held <ᵇ needed code) ≡ true
   lacks = search ands
 
@@ -113,14 +111,14 @@ module _ (d : Drive) (code held low : ℕ) (r : Calm d) (w : Waits (For code hel
   unfolding argument_read
   read_rules n = by (nibble_of code n) refl
     where
-      by : (x : Nibble) → nibble_of code n ≡ x → Rules (argument_or d code held low x)
-      by (Value v) e = taken_rules v (value_in_range code n v e)
-      by OutOfRange e = (r, refl)
+      by : (x : Option ℕ) → nibble_of code n ≡ x → Rules (argument_or d code held low x)
+      by (Some v) e = taken_rules v (value_in_range code n v e)
+      by None e = (r, refl)
 
 pub argument_rules : (d : Drive) (n : ℕ) → Rules d → Rules (step_argument d n)
 unfolding step_argument
 argument_rules d n r = by d.waiting refl
   where
-    by : (w : Waiting) → d.waiting ≡ w → Rules (argument_for w d n)
-    by Nothing e = r
-    by (For code held low) e = read_rules d code held low r.0 (rw e at r.1) n
+    by : (w : Option Waiting) → d.waiting ≡ w → Rules (argument_for w d n)
+    by None e = r
+    by (Some a) e = read_rules d a.code a.held a.value r.0 (rw e at r.1) n

@@ -10,10 +10,8 @@ use Rattle.numbers.specs.Member.{is_in}
 use Rattle.numbers.specs.Over.{over}
 use Rattle.numbers.proofs.Cases.{either}
 use Rattle.pulse_parts.specs.declared.cartridge.Cartridge.{Cartridge}
-use Rattle.pulse.specs.declared.calls.Step.{Step}
-use Rattle.pulse.specs.declared.calls.Waited.{Waited}
 use Rattle.pulse.specs.declared.drive.Drive.{Drive}
-use Rattle.pulse.specs.Calls.{accepted, accepted_wait, already_so, rules_broken, empty_train, insert_call, outside_ranges, refused, refused_wait}
+use Rattle.pulse.specs.Calls.{Step, Waited, accepted, accepted_wait, already_so, rules_broken, empty_train, insert_call, outside_ranges, refused, refused_wait}
 use Rattle.pulse.specs.Calls.{remove_call, tick_call, train_call, wait_call}
 use Rattle.pulse.specs.Events.{inserted, removed, run_for, steps_to}
 use Rattle.pulse.specs.Motions.{ticked}

@@ -4,11 +4,11 @@ use Prim.Native.Nat.{ℕ, ◌≤◌, ◌<◌}
 use native.Mathlib.Omega.{arith}
 use mathlib.Core.Bool.{Bool, true, false, not, ◌&&◌, ◌||◌, or-false, or-true}
 use mathlib.Core.Path.{◌≡◌, refl, ◌∙◌}
+use Rattle.std.specs.Prelude.{Some}
 use borrow.Author.Tests.{eqb-true, leb-true, not-false}
 use Rattle.numbers.specs.Choice.{◌<ᵇ◌, ◌≡ᵇ◌, ◌≤ᵇ◌}
 use Rattle.numbers.specs.Member.{is_in}
 use Rattle.numbers.proofs.Cases.{all_below, and_r, below, either, no_l, or_by}
-use Rattle.pulse_codes.specs.declared.arguments.Waiting.TheVariants.{For}
 use Rattle.pulse_codes.specs.Arguments.{needed}
 use Rattle.pulse_codes.specs.Codes.{between, is_report, is_skip, logical_forward, needs_cartridge, needs_reference, pause, physical_forward}
 use Rattle.pulse_codes.specs.Codes.{physical_reverse, report_next_bit, report_status, report_vendor, seek_load_point, seek_track, select_rate}
@@ -88,7 +88,8 @@ module _ (d : Drive) (n : ℕ) (i : Idle d) (c : Command n) (shut : is_open d.re
       loads : needs_cartridge n ≡ true → Rules (load_started d)
       loads a = idle_rules (load_started d) (load_calm d i.0 (has (needs_cartridge n) d.marks.inside p a), load_waiting d ∙ i.1)
 
-      waits : stops n ≡ false → goes n ≡ false → (n ≡ᵇ physical_reverse) ≡ false → (n ≡ᵇ seek_load_point) ≡ false → Waits (For n 0 0) d
+      waits : stops n ≡ false → goes n ≡ false → (n ≡ᵇ physical_reverse) ≡ false → (n ≡ᵇ seek_load_point) ≡ false →
+          Waits (Some record { code = n; held = 0; value = 0 }) d
       waits e g b l =
           let t = takes n c e g b l in
           let s = unless ((n ≡ᵇ seek_track) || is_skip n) d.marks.referenced (rw (no_l (n ≡ᵇ logical_forward) (n ≡ᵇ physical_forward) g) at q) in

@@ -3,10 +3,10 @@
 use Prim.Native.Nat.{ℕ, ◌≤◌}
 use mathlib.Core.Bool.{true, false}
 use mathlib.Core.Path.{◌≡◌, refl, ◌∙◌}
+use Rattle.std.specs.Prelude.{Option, None}
 use Rattle.numbers.specs.Choice.{◌≡ᵇ◌}
 use Rattle.numbers.proofs.Cases.{either}
 use Rattle.pulse_codes.specs.declared.arguments.Waiting.{Waiting}
-use Rattle.pulse_codes.specs.declared.arguments.Waiting.TheVariants.{Nothing}
 use Rattle.pulse_codes.specs.Errors.{admitted}
 use Rattle.pulse_parts.specs.Faults.{error_held}
 use Rattle.pulse_parts.specs.Heads.{is_run}
@@ -17,13 +17,13 @@ use Rattle.pulse_laws.proofs.Rules.{Calm, Rules}
 
 -- the rules, with no arguments waited for
 abbrev pub Idle : Drive → Type 0
-Idle d = Calm d × (d.waiting ≡ Nothing)
+Idle d = Calm d × (d.waiting ≡ None)
 
 pub idle_rules : (d : Drive) → Idle d → Rules d
 idle_rules d r = (r.0, rw r.1)
 
 -- a drive that waits as w says
-abbrev pub Awaits : Waiting → Drive → Type 0
+abbrev pub Awaits : Option Waiting → Drive → Type 0
 Awaits w x = x.waiting ≡ w
 
 pub latch_waiting : (d : Drive) (e n : ℕ) → (latched d e n).waiting ≡ d.waiting

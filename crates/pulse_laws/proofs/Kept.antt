@@ -6,10 +6,8 @@ use mathlib.Core.List.{List, [], ◌∷◌}
 use mathlib.Core.Path.{◌≡◌}
 use borrow.Author.Tests.{not-false}
 use Rattle.pulse_parts.specs.declared.cartridge.Cartridge.{Cartridge}
-use Rattle.pulse.specs.declared.calls.Step.{Step}
-use Rattle.pulse.specs.declared.calls.Waited.{Waited}
 use Rattle.pulse.specs.declared.drive.Drive.{Drive}
-use Rattle.pulse.specs.Calls.{insert_call, remove_call, tick_call, train_call, wait_call}
+use Rattle.pulse.specs.Calls.{Step, Waited, insert_call, remove_call, tick_call, train_call, wait_call}
 use Rattle.pulse.specs.Drives.{power_on}
 use Rattle.pulse.specs.Events.{inserted, removed, run_for, steps_to}
 use Rattle.pulse.specs.Motions.{ticked}

@@ -3,18 +3,17 @@
 use Prim.Native.Nat.{ℕ, zero, suc, ◌-◌}
 use mathlib.Core.Bool.{Bool, true, false, cond, ◌||◌}
 use mathlib.Core.Path.{◌≡◌, refl, ap}
+use Rattle.std.specs.Prelude.{Option, Some, None}
 use borrow.Author.Tests.{eqb-true, not-false}
 use Rattle.numbers.specs.Choice.{◌≡ᵇ◌}
 use Rattle.numbers.proofs.Cases.{either, never, no_l, or_r}
 use Rattle.pulse_codes.specs.declared.arguments.Waiting.{Waiting}
-use Rattle.pulse_codes.specs.declared.arguments.Waiting.TheVariants.{For, Nothing}
 use Rattle.pulse_codes.specs.Arguments.{in_range, nibble_of}
 use Rattle.pulse_codes.specs.Codes.{ignored, is_report, report_next_bit}
 use Rattle.pulse_parts.specs.declared.head.Motion.{Motion}
 use Rattle.pulse_parts.specs.declared.head.Motion.TheVariants.{Still, Run, Load}
-use Rattle.pulse.specs.declared.calls.Step.{Step}
-use Rattle.pulse.specs.declared.calls.Waited.{Waited}
 use Rattle.pulse.specs.declared.drive.Drive.{Drive}
+use Rattle.pulse.specs.Calls.{Step, Waited}
 use Rattle.pulse.specs.Arguments.{argument_for, argument_or, argument_read, argument_taken, nibble_taken, skipped, step_argument, track_sought}
 use Rattle.pulse.specs.Commands.{checked, obeyed, step_command}
 use Rattle.pulse.specs.Events.{inserted, removed, run_for, steps_to}
@@ -50,11 +49,11 @@ run_level zero d = refl
 run_level (suc k) d = simp (level_of, ended_level, alike, run_level k d)
 
 -- ---- trains
-argument_level : (w : Waiting) (d : Drive) (n : ℕ) → Same d (argument_for w d n)
+argument_level : (w : Option Waiting) (d : Drive) (n : ℕ) → Same d (argument_for w d n)
 unfolding argument_read nibble_of argument_taken track_sought nibble_taken skipped latched run_started
-argument_level Nothing d n = refl
-argument_level (For code held low) d n =
-    either (λ x. Same d (argument_or d code held low x)) (in_range code (n - 2)) _ _ (λ e. simp (level_of, alike)) (λ e. refl)
+argument_level None d n = refl
+argument_level (Some w) d n =
+    either (λ x. Same d (argument_or d w.code w.held w.value x)) (in_range w.code (n - 2)) _ _ (λ e. simp (level_of, alike)) (λ e. refl)
 
 in_report_level : (d : Drive) (n : ℕ) → ignored n ≡ true → Same d (step_report d n)
 unfolding step_report

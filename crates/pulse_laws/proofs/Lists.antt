@@ -14,9 +14,8 @@ use Rattle.numbers.specs.Member.{is_in}
 use Rattle.numbers.specs.Over.{over}
 use Rattle.numbers.proofs.MemberLaws.{not_in_parts}
 use Rattle.numbers.proofs.OverLaws.{over_length, over_part}
-use Rattle.pulse.specs.declared.calls.Step.{Step}
 use Rattle.pulse.specs.declared.drive.Drive.{Drive}
-use Rattle.pulse.specs.Calls.{not_refused}
+use Rattle.pulse.specs.Calls.{Step, not_refused}
 use Rattle.pulse.specs.Rules.{keeps_rules}
 use Rattle.pulse.specs.Train.{train_step}
 use Rattle.pulse.specs.Trains.{Sent, after_list, level_byte, levels_of, trains_call}

@@ -15,9 +15,8 @@ use Rattle.pulse_parts.specs.declared.head.Head.{Head}
 use Rattle.pulse_parts.specs.declared.reports.Report.{Report}
 use Rattle.pulse_parts.specs.Heads.{is_still}
 use Rattle.pulse_parts.specs.Reports.{is_open, item_level, items_left, most_items, report_fits}
-use Rattle.pulse.specs.declared.calls.Step.{Step}
 use Rattle.pulse.specs.declared.drive.Drive.{Drive}
-use Rattle.pulse.specs.Calls.{accepted, not_refused, train_call}
+use Rattle.pulse.specs.Calls.{Step, accepted, not_refused, train_call}
 use Rattle.pulse.specs.Drives.{is_ready, with_level, with_report}
 use Rattle.pulse.specs.Reports.{item_given, step_open_report, step_report}
 use Rattle.pulse.specs.Train.{train_step}

@@ -6,11 +6,11 @@ use native.Mathlib.Omega.{arith}
 use mathlib.Core.Bool.{Bool, true, false, and-false}
 use mathlib.Core.List.{List, [], ◌∷◌, ◌++◌, map}
 use mathlib.Core.Path.{◌≡◌, refl, sym, ◌∙◌, ap}
+use Rattle.std.specs.Prelude.{None}
 use borrow.Author.Tests.{leb-true, le-ltb}
 use lib.ListN.{length}
 use Rattle.numbers.specs.Choice.{◌≡ᵇ◌, ◌≤ᵇ◌}
 use Rattle.numbers.proofs.Cases.{and_l, and_r, ands, either, test}
-use Rattle.pulse_codes.specs.declared.arguments.Waiting.TheVariants.{Nothing}
 use Rattle.pulse_codes.specs.Codes.{report_error, report_status}
 use Rattle.pulse_codes.specs.Errors.{no_error}
 use Rattle.pulse_parts.specs.declared.fault.Fault.{Fault}
@@ -18,9 +18,8 @@ use Rattle.pulse_parts.specs.declared.marks.Marks.{Marks}
 use Rattle.pulse_parts.specs.declared.reports.Report.{Report}
 use Rattle.pulse_parts.specs.Heads.{toward}
 use Rattle.pulse_parts.specs.Reports.{error_bits, is_open, most_items, report_of16}
-use Rattle.pulse.specs.declared.calls.Step.{Step}
 use Rattle.pulse.specs.declared.drive.Drive.{Drive}
-use Rattle.pulse.specs.Calls.{accepted, train_call}
+use Rattle.pulse.specs.Calls.{Step, accepted, train_call}
 use Rattle.pulse.specs.Drives.{is_ready, with_head, with_waiting, without_arguments}
 use Rattle.pulse.specs.Events.{run_for}
 use Rattle.pulse.specs.Motions.{arrived, ticked}
@@ -225,7 +224,7 @@ no_pauses d (n ∷ ns) =
     (ap (λ (l : List Step). train_call d n ∷ l) r.0, r.1)
 
 -- ---- from any drive that keeps the rules, with a cartridge in
-run_waiting : (k : ℕ) (d : Drive) → 1 ≤ k → (run_for k d).waiting ≡ Nothing
+run_waiting : (k : ℕ) (d : Drive) → 1 ≤ k → (run_for k d).waiting ≡ None
 unfolding run_for
 run_waiting zero d l = absurd (lt_irrefl 0 (omega arith))
 run_waiting (suc k) d l = ticked_waiting (run_for k d)

@@ -3,11 +3,11 @@
 use Prim.Native.Nat.{ℕ}
 use mathlib.Core.Bool.{true, false, ◌&&◌, ◌||◌}
 use mathlib.Core.Path.{◌≡◌, refl, ap}
+use Rattle.std.specs.Prelude.{Option, Some, None}
 use borrow.Author.Tests.{ne_eqb, not-true}
 use Rattle.numbers.specs.Choice.{◌<ᵇ◌, ◌≡ᵇ◌}
 use Rattle.numbers.proofs.Cases.{and_l, and_r, ands, either, never, or_by}
 use Rattle.pulse_codes.specs.declared.arguments.Waiting.{Waiting}
-use Rattle.pulse_codes.specs.declared.arguments.Waiting.TheVariants.{For, Nothing}
 use Rattle.pulse_codes.specs.Arguments.{is_waiting, needed}
 use Rattle.pulse_codes.specs.Codes.{ignored, report_error, report_next_bit, report_status, report_vendor, soft_reset, stops_motion}
 use Rattle.pulse_codes.specs.Errors.{illegal_in_report, new_cartridge_pending, not_ready, undefined_command}
@@ -17,8 +17,8 @@ use Rattle.pulse_parts.specs.declared.head.Motion.TheVariants.{Load, Run, Still}
 use Rattle.pulse_parts.specs.Faults.{error_held}
 use Rattle.pulse_parts.specs.Heads.{held_at, is_run, is_still}
 use Rattle.pulse_parts.specs.Reports.{no_report}
-use Rattle.pulse.specs.declared.calls.Step.{Step}
 use Rattle.pulse.specs.declared.drive.Drive.{Drive}
+use Rattle.pulse.specs.Calls.{Step}
 use Rattle.pulse.specs.Commands.{checked, step_command}
 use Rattle.pulse.specs.Drives.{is_ready, with_level, with_report}
 use Rattle.pulse.specs.Motions.{latched, stopped}
@@ -92,11 +92,11 @@ module _ (d : Drive) (r : Rules d) (s : (error_held d.fault || d.marks.fresh) �
   no_argument : is_waiting d.waiting ≡ true → ⊥
   no_argument e = by d.waiting refl
     where
-      by : (w : Waiting) → d.waiting ≡ w → ⊥
-      by Nothing p = never e (ap is_waiting p)
-      by (For code held low) p =
-          let q : Waits (For code held low) d = rw p at r.1 in
-          let f : is_free d.report d.head d.fault d.marks ≡ true = and_r (held <ᵇ needed code) _ (and_l _ _ q) in
+      by : (w : Option Waiting) → d.waiting ≡ w → ⊥
+      by None p = never e (ap is_waiting p)
+      by (Some w) p =
+          let q : Waits (Some w) d = rw p at r.1 in
+          let f : is_free d.report d.head d.fault d.marks ≡ true = and_r (w.held <ᵇ needed w.code) _ (and_l _ _ q) in
           or_by (error_held d.fault) d.marks.fresh s (λ h. never h (not-true (error_held d.fault) (search ands)))
           (λ h. never h (not-true d.marks.fresh (search ands)))
 

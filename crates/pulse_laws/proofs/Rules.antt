@@ -3,6 +3,7 @@
 use Prim.Native.Nat.{ℕ, ◌≤◌, ◌<◌}
 use mathlib.Core.Bool.{Bool, true, false, not}
 use mathlib.Core.Path.{◌≡◌, refl}
+use Rattle.std.specs.Prelude.{Option}
 use borrow.Author.Tests.{lt-ltb, le-leb, eq-eqb, ne_eqb, ltb-true, leb-true, eqb-true, eqb-false, not-true}
 use Rattle.numbers.specs.Choice.{◌≡ᵇ◌, ◌≤ᵇ◌}
 use Rattle.numbers.proofs.Cases.{and_i, and_l, and_r, ands, test}
@@ -60,7 +61,7 @@ abbrev pub Calm : Drive → Type 0
 Calm d = Fits d.cart d.head d.marks d.fault d.report d.rate
 
 -- the rule on arguments, for a waiting
-abbrev pub Waits : Waiting → Drive → Type 0
+abbrev pub Waits : Option Waiting → Drive → Type 0
 Waits w d = waiting_fits w (is_free d.report d.head d.fault d.marks) d.marks.referenced ≡ true
 
 abbrev pub Rules : Drive → Type 0

@@ -11,9 +11,8 @@ use Rattle.numbers.proofs.Cases.{either, never, test}
 use Rattle.pulse_parts.specs.declared.head.Head.{Head}
 use Rattle.pulse_parts.specs.declared.head.Motion.{Motion}
 use Rattle.pulse_parts.specs.Heads.{is_load, is_still, toward}
-use Rattle.pulse.specs.declared.calls.Step.{Step}
 use Rattle.pulse.specs.declared.drive.Drive.{Drive}
-use Rattle.pulse.specs.Calls.{tick_call, wait_call}
+use Rattle.pulse.specs.Calls.{Step, tick_call, wait_call}
 use Rattle.pulse.specs.Drives.{is_ready, with_head, without_arguments}
 use Rattle.pulse.specs.Events.{run_for, steps_to}
 use Rattle.pulse.specs.Motions.{arrived, ticked}

@@ -3,12 +3,12 @@
 use Prim.Native.Nat.{ℕ, zero, suc}
 use mathlib.Core.Bool.{Bool, true, false, not, ◌&&◌, or-true}
 use mathlib.Core.Path.{◌≡◌, refl, sym, ◌∙◌, ap}
+use Rattle.std.specs.Prelude.{Option, Some, None}
 use borrow.Author.Tests.{leb-true}
 use Rattle.numbers.specs.Choice.{◌<ᵇ◌, ◌≡ᵇ◌, ◌≤ᵇ◌}
 use Rattle.numbers.specs.Member.{is_in}
 use Rattle.numbers.proofs.Cases.{ands, either, never}
 use Rattle.pulse_codes.specs.declared.arguments.Waiting.{Waiting}
-use Rattle.pulse_codes.specs.declared.arguments.Waiting.TheVariants.{For, Nothing}
 use Rattle.pulse_codes.specs.Arguments.{is_waiting}
 use Rattle.pulse_codes.specs.Codes.{report_vendor}
 use Rattle.pulse_codes.specs.Errors.{cartridge_missing, undefined_command}
@@ -47,13 +47,13 @@ power_rules vendor rom = (
 )
 
 -- ---- ticks
-pub ticked_waiting : (d : Drive) → (ticked d).waiting ≡ Nothing
+pub ticked_waiting : (d : Drive) → (ticked d).waiting ≡ None
 unfolding ticked arrived
 ticked_waiting d =
-    either (Awaits Nothing) (is_ready d) _ _ (λ e. refl)
+    either (Awaits None) (is_ready d) _ _ (λ e. refl)
     (λ e.
-    either (Awaits Nothing) (toward d.head.place d.head.target ≡ᵇ d.head.target) _ _
-    (λ f. ended (Awaits Nothing) d.head.motion (with_head (without_arguments d) (nearer d.head)) (λ s. refl) (λ s. refl) (λ s. refl))
+    either (Awaits None) (toward d.head.place d.head.target ≡ᵇ d.head.target) _ _
+    (λ f. ended (Awaits None) d.head.motion (with_head (without_arguments d) (nearer d.head)) (λ s. refl) (λ s. refl) (λ s. refl))
     (λ f. refl))
 
 pub tick_rules : (d : Drive) → Rules d → Rules (ticked d)
@@ -143,9 +143,9 @@ reset_rules d r =
 idle : (d : Drive) → Rules d → is_waiting d.waiting ≡ false → Idle d
 idle d r e = (r.0, nothing d.waiting e)
   where
-    nothing : (w : Waiting) → is_waiting w ≡ false → w ≡ Nothing
-    nothing Nothing e = refl
-    nothing (For code held low) e = never refl e
+    nothing : (w : Option Waiting) → is_waiting w ≡ false → w ≡ None
+    nothing None e = refl
+    nothing (Some a) e = never refl e
 
 unsupported_rules : (d : Drive) (n : ℕ) → Rules d → Idle d → Rules (step_unsupported d n)
 unfolding step_unsupported is_in

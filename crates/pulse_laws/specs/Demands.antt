@@ -8,9 +8,8 @@ use Rattle.pulse_codes.specs.Codes.{soft_reset}
 use Rattle.pulse_codes.specs.Errors.{no_error}
 use Rattle.pulse_parts.specs.declared.cartridge.Cartridge.{Cartridge}
 use Rattle.pulse_parts.specs.Faults.{error_held}
-use Rattle.pulse.specs.declared.calls.Step.{Step}
 use Rattle.pulse.specs.declared.drive.Drive.{Drive}
-use Rattle.pulse.specs.Calls.{already_so, empty_train, insert_call, not_refused, outside_ranges, refused, remove_call, tick_call, train_call, wait_call}
+use Rattle.pulse.specs.Calls.{Step, already_so, empty_train, insert_call, not_refused, outside_ranges, refused, remove_call, tick_call, train_call, wait_call}
 use Rattle.pulse.specs.Calls.{InsertPromise, PowerOnPromise, RemovePromise, TickPromise, TrainPromise, WaitPromise}
 use Rattle.pulse.specs.Drives.{is_ready, power_on}
 use Rattle.pulse.specs.Rules.{keeps_rules, max_segments}

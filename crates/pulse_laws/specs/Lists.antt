@@ -1,9 +1,8 @@
 -- What is demanded of a list of trains (02, A5): each demand is one type, proved under the same name in proofs/.
 -- Assumes nothing.
 use Rattle.std.specs.Prelude.{ℕ, ◌≤◌, true, List, map, ◌≡◌, drop, length, replicate, take}
-use Rattle.pulse.specs.declared.calls.Step.{Step}
 use Rattle.pulse.specs.declared.drive.Drive.{Drive}
-use Rattle.pulse.specs.Calls.{not_refused}
+use Rattle.pulse.specs.Calls.{Step, not_refused}
 use Rattle.pulse.specs.Rules.{keeps_rules}
 use Rattle.pulse.specs.Trains.{Sent, level_byte, trains_call}
 use Rattle.pulse_laws.specs.Demands.{Recovered}

@@ -5,9 +5,8 @@ use Rattle.numbers.specs.Choice.{◌≡ᵇ◌}
 use Rattle.numbers.specs.Flags.{weight_of}
 use Rattle.numbers.specs.Same.{same}
 use Rattle.pulse_codes.specs.Codes.{report_error, skip_extended_forward}
-use Rattle.pulse.specs.declared.calls.Step.{Step}
 use Rattle.pulse.specs.declared.drive.Drive.{Drive}
-use Rattle.pulse.specs.Calls.{insert_call}
+use Rattle.pulse.specs.Calls.{Step, insert_call}
 use Rattle.pulse.specs.Drives.{power_on}
 use Rattle.pulse_laws.specs.Runs.{after_trains, answers, next_bits, recovery_trains}
 

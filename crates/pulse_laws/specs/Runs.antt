@@ -10,9 +10,8 @@ use Rattle.pulse_parts.specs.declared.fault.Fault.{Fault}
 use Rattle.pulse_parts.specs.declared.head.Head.{Head}
 use Rattle.pulse_parts.specs.Heads.{held_at, is_run}
 use Rattle.pulse_parts.specs.Reports.{is_open}
-use Rattle.pulse.specs.declared.calls.Step.{Step}
 use Rattle.pulse.specs.declared.drive.Drive.{Drive}
-use Rattle.pulse.specs.Calls.{rules_broken, insert_call, not_refused, remove_call, tick_call, train_call}
+use Rattle.pulse.specs.Calls.{Step, rules_broken, insert_call, not_refused, remove_call, tick_call, train_call}
 use Rattle.pulse.specs.Drives.{power_on}
 use Rattle.pulse.specs.Rules.{in_ranges}
 

@@ -6,6 +6,18 @@ use Rattle.pulse_parts.specs.declared.head.Head.{Head}
 use Rattle.pulse_parts.specs.declared.head.Motion.{Motion}
 use Rattle.pulse_parts.specs.declared.head.Motion.TheVariants.{Still, Run, Load}
 
+-- "motion: 0 still, 1 run, 2 load"; any other byte is read as 0
+unfoldable pub motion_of : ℕ → Motion
+motion_of byte =
+    if byte ≡ᵇ 1 then Run else
+    if byte ≡ᵇ 2 then Load else
+    Still
+
+abbrev pub motion_byte : Motion → ℕ
+motion_byte Still = 0
+motion_byte Run = 1
+motion_byte Load = 2
+
 abbrev pub is_still : Motion → Bool
 is_still Still = true
 is_still Run = false

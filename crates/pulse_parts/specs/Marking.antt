@@ -1,8 +1,8 @@
 -- What the drive remembers of the cartridge.
 -- Assumes nothing.
-use Rattle.std.specs.Prelude.{ℕ, Bool, true, false, not, ◌&&◌, if◌then◌else◌}
+use Rattle.std.specs.Prelude.{ℕ, Bool, true, false, not, ◌&&◌, if◌then◌else◌, Option, Some, None}
 use Rattle.pulse_codes.specs.Codes.{needs_cartridge, needs_reference}
-use Rattle.pulse_codes.specs.Errors.{no_error, cartridge_missing, new_cartridge_pending, not_referenced}
+use Rattle.pulse_codes.specs.Errors.{cartridge_missing, new_cartridge_pending, not_referenced}
 use Rattle.pulse_parts.specs.declared.marks.Marks.{Marks}
 
 -- no cartridge is in
@@ -22,10 +22,10 @@ mark_fresh m x = record { inside = m.inside; referenced = m.referenced; fresh = 
 abbrev pub mark_asked : Marks → Bool → Marks
 mark_asked m x = record { inside = m.inside; referenced = m.referenced; fresh = m.fresh; asked = x }
 
--- what the marks refuse a command for, or 0. 01: "New mark: 13. No cartridge (10-14, skips): 2. Not referenced (10, 13, skips): 19."
-unfoldable pub command_error : Marks → ℕ → ℕ
+-- what the marks refuse a command for. 01: "New mark: 13. No cartridge (10-14, skips): 2. Not referenced (10, 13, skips): 19."
+unfoldable pub command_error : Marks → ℕ → Option ℕ
 command_error m n =
-    if m.fresh then new_cartridge_pending else
-    if needs_cartridge n && not m.inside then cartridge_missing else
-    if needs_reference n && not m.referenced then not_referenced else
-    no_error
+    if m.fresh then Some new_cartridge_pending else
+    if needs_cartridge n && not m.inside then Some cartridge_missing else
+    if needs_reference n && not m.referenced then Some not_referenced else
+    None

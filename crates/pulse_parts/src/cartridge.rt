@@ -2,7 +2,7 @@
 ghost use Rattle.std.specs.Prelude.{◌≡◌};
 ghost use Rattle.pulse_parts.specs.Cartridges.{no_cartridge, is_none};
 
-#[derive(Clone, Copy)]
+#[derive(Clone, Copy, PartialEq, Eq)]
 pub struct Cartridge {
     pub segments: u16,
     pub tracks: u8,
@@ -13,28 +13,24 @@ pub struct Cartridge {
     pub kind: u8,
 }
 
-pub fn no_cartridge() -> Cartridge
-    ensures { result ≡ no_cartridge }
-{
-    Cartridge {
-        segments: 0,
-        tracks: 0,
-        protected: false,
-        burst: false,
-        wide: false,
-        format: 0,
-        kind: 0,
+impl Cartridge {
+    pub fn none() -> Self
+        ensures { result ≡ no_cartridge }
+    {
+        Cartridge {
+            segments: 0,
+            tracks: 0,
+            protected: false,
+            burst: false,
+            wide: false,
+            format: 0,
+            kind: 0,
+        }
     }
-}
 
-pub fn is_none(c: Cartridge) -> bool
-    ensures { result ≡ is_none c }
-{
-    (c.segments == 0)
-        & (c.tracks == 0)
-        & !c.protected
-        & !c.burst
-        & !c.wide
-        & (c.format == 0)
-        & (c.kind == 0)
+    pub fn is_none(self) -> bool
+        ensures { result ≡ is_none self }
+    {
+        self == Cartridge::none()
+    }
 }

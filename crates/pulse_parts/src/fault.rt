@@ -4,26 +4,28 @@ ghost use Rattle.pulse_parts.specs.Faults.{error_held, power_on_fault};
 
 use pulse_codes::errors;
 
-// The command of an error that no train gave.
-pub const NO_COMMAND: u8 = 0;
-
-#[derive(Clone, Copy)]
+#[derive(Clone, Copy, PartialEq, Eq)]
 pub struct Fault {
     pub error: u8,
     pub command: u8,
 }
 
-pub fn is_held(f: Fault) -> bool
-    ensures { result ≡ error_held f }
-{
-    f.error != errors::NO_ERROR
-}
+impl Fault {
+    // The command of an error that no train gave.
+    pub const NO_COMMAND: u8 = 0;
 
-pub fn power_on_fault() -> Fault
-    ensures { result ≡ power_on_fault }
-{
-    Fault {
-        error: errors::POWER_ON_RESET,
-        command: NO_COMMAND,
+    pub fn at_power_on() -> Self
+        ensures { result ≡ power_on_fault }
+    {
+        Fault {
+            error: errors::POWER_ON_RESET,
+            command: Fault::NO_COMMAND,
+        }
+    }
+
+    pub fn is_held(self) -> bool
+        ensures { result ≡ error_held self }
+    {
+        self.error != errors::NO_ERROR
     }
 }

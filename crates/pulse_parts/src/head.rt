@@ -2,19 +2,33 @@
 ghost use Rattle.std.specs.Prelude.{◌≡◌, ◌&&◌};
 ghost use Rattle.numbers.specs.Choice.{◌≡ᵇ◌};
 ghost use Rattle.pulse_codes.specs.Codes.{stops_motion};
-ghost use Rattle.pulse_parts.specs.Heads.{is_still, is_run, motion_fits, standing_at, held_at, headed_for, stood_at, on_track};
+ghost use Rattle.pulse_parts.specs.Heads.{motion_of, is_still, is_run, motion_fits, standing_at, held_at, headed_for, stood_at, on_track};
 ghost use Rattle.pulse_parts.specs.Heads.{toward, skipped_back, skipped_on};
 
 use pulse_codes::codes;
+use std::cmp::Ordering;
 
-#[derive(Clone, Copy)]
+#[derive(Clone, Copy, PartialEq, Eq)]
 pub enum Motion {
-    Still,
-    Run,
-    Load,
+    Still = 0,
+    Run = 1,
+    Load = 2,
 }
 
-#[derive(Clone, Copy)]
+impl From<u8> for Motion {
+    ghost from_gives = { λ byte motion. motion ≡ motion_of byte };
+
+    #[tactic(auto, unfolding(crate::specs::Heads::motion_of))]
+    fn from(byte: u8) -> Motion {
+        match byte {
+            1 => Motion::Run,
+            2 => Motion::Load,
+            _ => Motion::Still,
+        }
+    }
+}
+
+#[derive(Clone, Copy, PartialEq, Eq)]
 pub struct Head {
     pub place: u16,
     pub target: u16,
@@ -22,154 +36,105 @@ pub struct Head {
     pub motion: Motion,
 }
 
-fn is_still(m: Motion) -> bool
-    ensures { result ≡ is_still m }
-{
-    match m {
-        Motion::Still => true,
-        Motion::Run => false,
-        Motion::Load => false,
+impl Head {
+    pub fn standing_at(place: u16) -> Self
+        ensures { result ≡ standing_at place }
+    {
+        Head {
+            place,
+            target: place,
+            track: 0,
+            motion: Motion::Still,
+        }
     }
-}
 
-fn is_run(m: Motion) -> bool
-    ensures { result ≡ is_run m }
-{
-    match m {
-        Motion::Still => false,
-        Motion::Run => true,
-        Motion::Load => false,
+    pub fn stands(self) -> bool
+        ensures { result ≡ is_still self.motion }
+    {
+        self.motion == Motion::Still
     }
-}
 
-fn motion_fits(m: Motion, place: u16, target: u16) -> bool
-    ensures { result ≡ motion_fits m place target }
-{
-    let there = place == target;
-    match m {
-        Motion::Still => there,
-        Motion::Run => !there,
-        Motion::Load => !there & (target == 0),
+    pub fn runs(self) -> bool
+        ensures { result ≡ is_run self.motion }
+    {
+        self.motion == Motion::Run
     }
-}
 
-pub fn stands(h: Head) -> bool
-    ensures { result ≡ is_still h.motion }
-{
-    let m = h.motion;
-    is_still(m)
-}
-
-pub fn runs(h: Head) -> bool
-    ensures { result ≡ is_run h.motion }
-{
-    let m = h.motion;
-    is_run(m)
-}
-
-pub fn head_fits(h: Head) -> bool
-    ensures { result ≡ motion_fits h.motion h.place h.target }
-{
-    let m = h.motion;
-    motion_fits(m, h.place, h.target)
-}
-
-pub fn is_on_target(h: Head) -> bool
-    ensures { result ≡ (h.place ≡ᵇ h.target) }
-{
-    h.place == h.target
-}
-
-// A run gives way to the code: it stops, and the code goes on.
-pub fn gives_way(h: Head, code: u8) -> bool
-    ensures { result ≡ (is_run h.motion && stops_motion code) }
-{
-    runs(h) & codes::stops_motion(code as u16)
-}
-
-pub fn standing_at(place: u16) -> Head
-    ensures { result ≡ standing_at place }
-{
-    Head {
-        place: place,
-        target: place,
-        track: 0,
-        motion: Motion::Still,
+    pub fn is_on_target(self) -> bool
+        ensures { result ≡ (self.place ≡ᵇ self.target) }
+    {
+        self.place == self.target
     }
-}
 
-// A stop sets the target to the place.
-pub fn held_at(h: Head) -> Head
-    ensures { result ≡ held_at h }
-{
-    Head {
-        place: h.place,
-        target: h.place,
-        track: h.track,
-        motion: Motion::Still,
+    pub fn fits(self) -> bool
+        ensures { result ≡ motion_fits self.motion self.place self.target }
+    {
+        let there = self.is_on_target();
+        match self.motion {
+            Motion::Still => there,
+            Motion::Run => !there,
+            Motion::Load => !there & (self.target == 0),
+        }
     }
-}
 
-pub fn headed_for(h: Head, target: u16, motion: Motion) -> Head
-    ensures { result ≡ headed_for h target motion }
-{
-    Head {
-        place: h.place,
-        target: target,
-        track: h.track,
-        motion: motion,
+    // A run gives way to the code: it stops, and the code goes on.
+    pub fn gives_way(self, code: u8) -> bool
+        ensures { result ≡ (is_run self.motion && stops_motion code) }
+    {
+        self.runs() & codes::stops_motion(code as u16)
     }
-}
 
-fn stood_at(h: Head, place: u16) -> Head
-    ensures { result ≡ stood_at h place }
-{
-    let mut next = h;
-    next.place = place;
-    next
-}
-
-pub fn on_track(h: Head, track: u8) -> Head
-    ensures { result ≡ on_track h track }
-{
-    let mut next = h;
-    next.track = track;
-    next
-}
-
-fn toward_target(place: u16, target: u16) -> u16
-    ensures { result ≡ toward place target }
-{
-    if place < target {
-        return place + 1;
+    // A stop sets the target to the place.
+    pub fn held(self) -> Self
+        ensures { result ≡ held_at self }
+    {
+        self.headed_for(self.place, Motion::Still)
     }
-    if target < place {
-        return place - 1;
-    }
-    place
-}
 
-pub fn moved(h: Head) -> Head
-    ensures { result ≡ stood_at h (toward h.place h.target) }
-{
-    stood_at(h, toward_target(h.place, h.target))
-}
-
-pub fn skip_back(place: u16, count: u16) -> u16
-    ensures { result ≡ skipped_back place count }
-{
-    if count <= place {
-        return place - count;
+    pub fn headed_for(self, target: u16, motion: Motion) -> Self
+        ensures { result ≡ headed_for self target motion }
+    {
+        Head {
+            target,
+            motion,
+            ..self
+        }
     }
-    0
-}
 
-pub fn skip_on(place: u16, segments: u16, count: u16) -> u16
-    ensures { result ≡ skipped_on place segments count }
-{
-    let sum = place as u32 + count as u32;
-    if sum <= segments as u32 {
-        return sum as u16;
+    pub fn on_track(self, track: u8) -> Self
+        ensures { result ≡ on_track self track }
+    {
+        Head { track, ..self }
     }
-    segments
+
+    fn next_place(self) -> u16
+        ensures { result ≡ toward self.place self.target }
+    {
+        match self.place.cmp(&self.target) {
+            Ordering::Less => self.place + 1,
+            Ordering::Equal => self.place,
+            Ordering::Greater => self.place - 1,
+        }
+    }
+
+    pub fn moved(self) -> Self
+        ensures { result ≡ stood_at self (toward self.place self.target) }
+    {
+        Head {
+            place: self.next_place(),
+            ..self
+        }
+    }
+
+    pub fn skip_back(self, count: u16) -> u16
+        ensures { result ≡ skipped_back self.place count }
+    {
+        self.place.saturating_sub(count)
+    }
+
+    pub fn skip_on(self, segments: u16, count: u16) -> u16
+        ensures { result ≡ skipped_on self.place segments count }
+    {
+        self.place.saturating_add(count).min(segments)
+    }
 }

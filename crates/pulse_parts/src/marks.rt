@@ -4,7 +4,7 @@ ghost use Rattle.pulse_parts.specs.Marking.{no_marks, new_marks, mark_asked, mar
 
 use pulse_codes::{codes, errors};
 
-#[derive(Clone, Copy)]
+#[derive(Clone, Copy, PartialEq, Eq)]
 pub struct Marks {
     pub inside: bool,
     pub referenced: bool,
@@ -12,70 +12,73 @@ pub struct Marks {
     pub asked: bool,
 }
 
-pub fn no_marks() -> Marks
-    ensures { result ≡ no_marks }
-{
-    Marks {
-        inside: false,
-        referenced: false,
-        fresh: false,
-        asked: false,
+impl Marks {
+    pub fn none() -> Self
+        ensures { result ≡ no_marks }
+    {
+        Marks {
+            inside: false,
+            referenced: false,
+            fresh: false,
+            asked: false,
+        }
     }
-}
 
-// A cartridge was put in.
-pub fn new_marks() -> Marks
-    ensures { result ≡ new_marks }
-{
-    Marks {
-        inside: true,
-        referenced: false,
-        fresh: true,
-        asked: false,
+    // A cartridge was put in.
+    pub fn inserted() -> Self
+        ensures { result ≡ new_marks }
+    {
+        Marks {
+            inside: true,
+            fresh: true,
+            ..Marks::none()
+        }
     }
-}
 
-pub fn asked(m: Marks) -> Marks
-    ensures { result ≡ mark_asked m true }
-{
-    let mut next = m;
-    next.asked = true;
-    next
-}
-
-// The new mark stays until a status report was asked for.
-pub fn after_reading(m: Marks) -> Marks
-    ensures { result ≡ mark_fresh m (m.fresh && not m.asked) }
-{
-    let still_new = m.fresh & !m.asked;
-    let mut next = m;
-    next.fresh = still_new;
-    next
-}
-
-pub fn forgotten(m: Marks) -> Marks
-    ensures { result ≡ mark_asked (mark_referenced m false) false }
-{
-    let mut next = m;
-    next.referenced = false;
-    next.asked = false;
-    next
-}
-
-// What a command is refused for, or 0.
-#[tactic(auto, unfolding(crate::specs::Marking::command_error))]
-pub fn command_error(m: Marks, code: u8) -> u8
-    ensures { result ≡ command_error m code }
-{
-    if m.fresh {
-        return errors::NEW_CARTRIDGE_PENDING;
+    pub fn after_asking(self) -> Self
+        ensures { result ≡ mark_asked self true }
+    {
+        Marks {
+            asked: true,
+            ..self
+        }
     }
-    let n = code as u16;
-    if codes::needs_cartridge(n) & !m.inside {
-        return errors::CARTRIDGE_MISSING;
+
+    // The new mark stays until a status report was asked for.
+    pub fn after_reading(self) -> Self
+        ensures { result ≡ mark_fresh self (self.fresh && not self.asked) }
+    {
+        Marks {
+            fresh: self.fresh & !self.asked,
+            ..self
+        }
     }
-    if codes::needs_reference(n) & !m.referenced {
-        return errors::NOT_REFERENCED;
+
+    pub fn forgotten(self) -> Self
+        ensures { result ≡ mark_asked (mark_referenced self false) false }
+    {
+        Marks {
+            referenced: false,
+            asked: false,
+            ..self
+        }
     }
-    errors::NO_ERROR
+
+    // What a command is refused for.
+    #[tactic(auto, unfolding(crate::specs::Marking::command_error))]
+    pub fn command_error(self, code: u8) -> Option<u8>
+        ensures { result ≡ command_error self code }
+    {
+        let n = code as u16;
+        if self.fresh {
+            return Some(errors::NEW_CARTRIDGE_PENDING);
+        }
+        if codes::needs_cartridge(n) & !self.inside {
+            return Some(errors::CARTRIDGE_MISSING);
+        }
+        if codes::needs_reference(n) & !self.referenced {
+            return Some(errors::NOT_REFERENCED);
+        }
+        None
+    }
 }

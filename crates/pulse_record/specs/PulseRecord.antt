@@ -1,53 +1,39 @@
 -- The pulse drive's record, cartridge description and answer in bytes. Numbers are big-endian; reserved bits and bytes are ignored and written as 0.
 -- Assumes nothing.
-use Rattle.std.specs.Prelude.{ℕ, ◌+◌, ◌%◌, ◌^◌, Bool, List, [], ◌∷◌, ◌++◌, get_or, if◌then◌else◌}
+use Rattle.std.specs.Prelude.{ℕ, ◌+◌, ◌%◌, ◌^◌, Bool, List, [], ◌∷◌, ◌++◌, get_or, if◌then◌else◌, Option, Some, None}
 use Rattle.numbers.specs.Choice.{◌≡ᵇ◌}
 use Rattle.numbers.specs.Counts.{count_at, count_bytes}
 use Rattle.pulse_codes.specs.declared.arguments.Waiting.{Waiting}
-use Rattle.pulse_codes.specs.declared.arguments.Waiting.TheVariants.{Nothing, For}
 use Rattle.pulse_parts.specs.declared.cartridge.Cartridge.{Cartridge}
 use Rattle.pulse_parts.specs.declared.head.Head.{Head}
-use Rattle.pulse_parts.specs.declared.head.Motion.{Motion}
-use Rattle.pulse_parts.specs.declared.head.Motion.TheVariants.{Still, Run, Load}
 use Rattle.pulse_parts.specs.declared.marks.Marks.{Marks}
 use Rattle.pulse_parts.specs.declared.reports.Report.{Report}
 use Rattle.pulse.specs.declared.drive.Drive.{Drive}
 use Rattle.numbers.specs.Flags.{is_set, weight_of}
+pub use Rattle.pulse_parts.specs.Heads.{motion_of, motion_byte}
 
 -- ---- bytes that name a case
-
--- "motion: 0 still, 1 run, 2 load"; any other byte is read as 0
-unfoldable pub motion_of : ℕ → Motion
-motion_of byte =
-    if byte ≡ᵇ 1 then Run else
-    if byte ≡ᵇ 2 then Load else
-    Still
-
-abbrev pub motion_byte : Motion → ℕ
-motion_byte Still = 0
-motion_byte Run = 1
-motion_byte Load = 2
 
 -- report bits: "read and written as 0 where no report is open"
 unfoldable pub unsent : ℕ → ℕ → ℕ
 unsent left bits = if left ≡ᵇ 0 then 0 else bits
 
 -- "code whose arguments are waited for, 0 for none"; "the value is read modulo 16^held"
-unfoldable pub waiting_of : ℕ → ℕ → ℕ → Waiting
-waiting_of code held value = if code ≡ᵇ 0 then Nothing else For code held (value % 16 ^ held)
+unfoldable pub waiting_of : ℕ → ℕ → ℕ → Option Waiting
+waiting_of code held value = if code ≡ᵇ 0 then None else Some record { code = code; held = held; value = value % 16 ^ held }
 
 -- "written as 0 where none are waited for"
-abbrev pub waited_code : Waiting → ℕ
-waited_code Nothing = 0
-waited_code (For code held value) = code
+abbrev pub waited_code : Option Waiting → ℕ
+waited_code None = 0
+waited_code (Some w) = w.code
 
-abbrev pub waited_held : Waiting → ℕ
-waited_held Nothing = 0
-waited_held (For code held value) = held
+abbrev pub waited_held : Option Waiting → ℕ
+waited_held None = 0
+waited_held (Some w) = w.held
 
-abbrev pub waited_value : Waiting → ℕ
-waited_value Nothing = 0
-waited_value (For code held value) = value
+abbrev pub waited_value : Option Waiting → ℕ
+waited_value None = 0
+waited_value (Some w) = w.value
 
 -- ---- the cartridge
 
@@ -95,7 +81,7 @@ report_in s =
       bits = unsent (get_or s 17 0) (count_at s 18 2);  -- 18-19
     }
 
-unfoldable pub waiting_in : List ℕ → Waiting
+unfoldable pub waiting_in : List ℕ → Option Waiting
 waiting_in s = waiting_of (get_or s 20 0) (get_or s 21 0) (count_at s 22 2)  -- 20, 21, 22-23
 
 -- the record that 32 bytes spell

@@ -2,7 +2,7 @@
 #![tactic(auto)]
 
 ghost use Rattle.std.specs.Prelude.{◌≡◌, ◌%◌, ◌^◌, ◌≤◌, length};
-ghost use Rattle.pulse_record.specs.PulseRecord.{motion_of, motion_byte, unsent, waiting_of, waited_code, waited_held, waited_value};
+ghost use Rattle.pulse_record.specs.PulseRecord.{unsent, waiting_of};
 ghost use Rattle.pulse_record.specs.PulseRecord.{cartridge_of, cartridge_byte, described_cartridge, described_place, marks_of, marks_byte};
 ghost use Rattle.pulse_record.specs.PulseRecord.{cartridge_in, head_in, report_in, waiting_in, decode_drive, encode_drive, encode_told};
 
@@ -12,39 +12,18 @@ use pulse::Drive;
 use pulse_codes::Waiting;
 use pulse_parts::{Cartridge, Fault, Head, Marks, Motion, Report};
 
-#[tactic(auto, unfolding(crate::specs::PulseRecord::motion_of))]
-fn motion_of(byte: u8) -> Motion
-    ensures { result ≡ motion_of byte }
-{
-    match byte {
-        1 => Motion::Run,
-        2 => Motion::Load,
-        _ => Motion::Still,
-    }
-}
-
-fn motion_byte(motion: Motion) -> u8
-    ensures { result ≡ motion_byte motion }
-{
-    match motion {
-        Motion::Still => 0,
-        Motion::Run => 1,
-        Motion::Load => 2,
-    }
-}
-
 #[tactic(auto, unfolding(crate::specs::PulseRecord::unsent))]
 fn unsent(left: u8, bits: u16) -> u16
     ensures { result ≡ unsent left bits }
 {
-    let closed = left == 0;
-    if closed {
+    if left == 0 {
         return 0;
     }
     bits
 }
 
 // Only the nibbles held count; four of them are the whole value.
+#[tactic(auto, using(crate::proofs::ValueLaws::whole_value))]
 fn held_value(held: u8, value: u16) -> u16
     ensures { result ≡ value % 16 ^ held }
 {
@@ -58,55 +37,25 @@ fn held_value(held: u8, value: u16) -> u16
 }
 
 #[tactic(auto, unfolding(crate::specs::PulseRecord::waiting_of))]
-fn waiting_of(code: u8, held: u8, value: u16) -> Waiting
+fn waiting_of(code: u8, held: u8, value: u16) -> Option<Waiting>
     ensures { result ≡ waiting_of code held value }
 {
-    let none = code == 0;
-    if none {
-        return Waiting::Nothing;
+    if code == 0 {
+        return None;
     }
-    let value = held_value(held, value);
-    Waiting::For { code, held, value }
+    Some(Waiting {
+        code,
+        held,
+        value: held_value(held, value),
+    })
 }
 
-fn waited_code(waiting: Waiting) -> u8
-    ensures { result ≡ waited_code waiting }
-{
-    match waiting {
-        Waiting::Nothing => 0,
-        Waiting::For {
-            code,
-            held: _,
-            value: _,
-        } => code,
-    }
-}
-
-fn waited_held(waiting: Waiting) -> u8
-    ensures { result ≡ waited_held waiting }
-{
-    match waiting {
-        Waiting::Nothing => 0,
-        Waiting::For {
-            code: _,
-            held,
-            value: _,
-        } => held,
-    }
-}
-
-fn waited_value(waiting: Waiting) -> u16
-    ensures { result ≡ waited_value waiting }
-{
-    match waiting {
-        Waiting::Nothing => 0,
-        Waiting::For {
-            code: _,
-            held: _,
-            value,
-        } => value,
-    }
-}
+// What the record's bytes are where no arguments are waited for.
+const NOTHING_WAITED: Waiting = Waiting {
+    code: 0,
+    held: 0,
+    value: 0,
+};
 
 #[tactic(auto, unfolding(crate::specs::PulseRecord::cartridge_of))]
 fn cartridge_of(segments: u16, tracks: u8, flags: u8, format: u8, kind: u8) -> Cartridge
@@ -183,7 +132,7 @@ fn head_in(bytes: &[u8]) -> Head
         place: count2(bytes, 8),
         target: count2(bytes, 10),
         track: bytes[12],
-        motion: motion_of(bytes[1]),
+        motion: Motion::from(bytes[1]),
     }
 }
 
@@ -200,7 +149,7 @@ fn report_in(bytes: &[u8]) -> Report
 }
 
 #[tactic(auto, unfolding(crate::specs::PulseRecord::waiting_in))]
-fn waiting_in(bytes: &[u8]) -> Waiting
+fn waiting_in(bytes: &[u8]) -> Option<Waiting>
     requires { 32 ≤ length bytes.now }
     ensures { result ≡ waiting_in bytes.now }
 {
@@ -230,19 +179,15 @@ pub fn decode_drive(bytes: &[u8]) -> Drive
     }
 }
 
-// The bytes in their places; those of a case or of an open report come in.
 #[tactic(auto, unfolding(crate::specs::PulseRecord::encode_drive))]
-fn lay_out(d: Drive, motion: u8, bits: u16, code: u8, held: u8, value: u16) -> [u8; 32]
-    requires motion_value { motion ≡ motion_byte d.head.motion }
-    requires bits_value { bits ≡ unsent d.report.left d.report.bits }
-    requires code_value { code ≡ waited_code d.waiting }
-    requires held_value { held ≡ waited_held d.waiting }
-    requires value_value { value ≡ waited_value d.waiting }
+pub fn encode_drive(d: Drive) -> [u8; 32]
     ensures { result ≡ encode_drive d }
 {
+    let bits = unsent(d.report.left, d.report.bits);
+    let waited = d.waiting.unwrap_or(NOTHING_WAITED);
     [
         marks_byte(d.marks, d.report),
-        motion,
+        d.head.motion as u8,
         high_byte(d.cart.segments),
         low_byte(d.cart.segments),
         d.cart.tracks,
@@ -261,10 +206,10 @@ fn lay_out(d: Drive, motion: u8, bits: u16, code: u8, held: u8, value: u16) -> [
         d.report.left,
         high_byte(bits),
         low_byte(bits),
-        code,
-        held,
-        high_byte(value),
-        low_byte(value),
+        waited.code,
+        waited.held,
+        high_byte(waited.value),
+        low_byte(waited.value),
         high_byte(d.vendor),
         low_byte(d.vendor),
         d.rom,
@@ -274,20 +219,6 @@ fn lay_out(d: Drive, motion: u8, bits: u16, code: u8, held: u8, value: u16) -> [
         0,
         0,
     ]
-}
-
-pub fn encode_drive(d: Drive) -> [u8; 32]
-    ensures { result ≡ encode_drive d }
-{
-    let head = d.head;
-    let motion = head.motion;
-    let report = d.report;
-    let waiting = d.waiting;
-    let bits = unsent(report.left, report.bits);
-    let code = waited_code(waiting);
-    let held = waited_held(waiting);
-    let value = waited_value(waiting);
-    lay_out(d, motion_byte(motion), bits, code, held, value)
 }
 
 #[tactic(auto, unfolding(crate::specs::PulseRecord::encode_told))]

@@ -1,2 +1,1 @@
-pub mod PacketLaws
 pub mod WorkLaws

@@ -1,11 +1,12 @@
 -- What a packet leaves of the stream device: answer, record, image and buffer, for every packet, image, record and buffer.
 -- Assumes nothing.
-use Rattle.std.specs.Prelude.{ℕ, List, ◌≡◌}
+use Rattle.std.specs.Prelude.{ℕ, List, ◌≡◌, Result}
+use Rattle.numbers.specs.declared.refusals.Refusal.{Refusal}
 use Rattle.image.specs.Header.{keeps_header_rules}
 use Rattle.packet_state.specs.declared.state.Outcome.{Outcome}
 use Rattle.packet_state.specs.declared.state.State.{State}
 use Rattle.packet_state.specs.States.{fresh_state, changed_state, keeps_record_rules}
-use Rattle.packet_parts.specs.Answers.{Left, done}
+use Rattle.packet_parts.specs.Answers.{Left, left}
 use Rattle.packet_parts.specs.Shell.{Device, answers_to}
 use Rattle.stream_parts.specs.Checks.{asked_by}
 use Rattle.stream_parts.specs.Requests.{request_of}
@@ -37,5 +38,5 @@ abbrev pub ChangedPromise : State → State → Type 0
 ChangedPromise st r = r ≡ changed_state st
 
 -- the outcome, and image and buffer at the end
-abbrev pub PacketPromise : List ℕ → State → List ℕ → List ℕ → Outcome → List ℕ → List ℕ → Type 0
-PacketPromise s st packet buf r image' buf' = done r image' buf' ≡ packet_step s st packet buf
+abbrev pub PacketPromise : List ℕ → State → List ℕ → List ℕ → Result (Outcome State) Refusal → List ℕ → List ℕ → Type 0
+PacketPromise s st packet buf r image' buf' = left st r image' buf' ≡ packet_step s st packet buf

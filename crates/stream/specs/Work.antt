@@ -1,9 +1,8 @@
 -- The work of each command, once nothing before it ended the packet.
 -- Assumes nothing.
-use Rattle.std.specs.Prelude.{ℕ, ◌-◌, ◌^◌, ◌<◌, ◌≤◌, not, ◌&&◌, List, ◌≡◌, if◌then◌else◌}
+use Rattle.std.specs.Prelude.{ℕ, ◌-◌, ◌^◌, ◌<◌, ◌≤◌, not, ◌&&◌, List, ◌≡◌, Some, if◌then◌else◌}
 use Rattle.numbers.specs.Choice.{◌≡ᵇ◌, ◌<ᵇ◌, ◌≤ᵇ◌}
 use Rattle.image.specs.declared.header.Header.{Header}
-use Rattle.image.specs.declared.header.Judged.TheVariants.{Good as GoodHeader}
 use Rattle.image.specs.Elements.{record_to}
 use Rattle.image.specs.Header.{header_of}
 use Rattle.opcodes.specs.declared.Command.{Command}
@@ -15,8 +14,7 @@ use Rattle.transfer.specs.declared.Stop.TheVariants.{Full, AtFilemark, AtBadBloc
 use Rattle.transfer.specs.Reading.{Reading, read_from}
 use Rattle.transfer.specs.Writing.{Writing, write_from, mark_from}
 use Rattle.transfer.specs.Spacing.{blocks_on, blocks_back, marks_on, marks_back}
-use Rattle.packet_state.specs.declared.state.Ending.{Ending}
-use Rattle.packet_state.specs.declared.state.Ending.TheVariants.{Good, Check}
+use Rattle.packet_state.specs.Answers.{Ending, Good, Check}
 use Rattle.packet_state.specs.declared.state.Outcome.{Outcome}
 use Rattle.packet_state.specs.declared.state.State.{State}
 use Rattle.packet_parts.specs.declared.requests.Request.{Request}
@@ -34,7 +32,7 @@ use Rattle.packet_state.specs.States.{highest_key, at_place}
 
 -- what a packet has passed when it comes to its work: the image has the header h, the record keeps rule 3, and a count has three bytes
 pub record Passed (s : List ℕ) (h : Header) (st : State) (q : Request) : Type 0 where
-  pub header : header_of s ≡ GoodHeader h
+  pub header : header_of s ≡ Some h
   pub place : st.position ≤ h.recorded
   pub key : st.sense.key ≤ highest_key
   pub count : q.count < 2 ^ 24
@@ -90,11 +88,11 @@ space_run s h p code count =
     if is_back count then marks_back s h.kinds p (magnitude count) else
     marks_on s h.kinds (h.recorded - p) (magnitude count) p
 
-abbrev pub space_ends : Header → State → Moved → Outcome
+abbrev pub space_ends : Header → State → Moved → Outcome State
 space_ends h st moved = ends (at_place st moved.place) (ending_of h moved.stop moved.left) 0 0
 
 -- "Code 3: P = U."
-unfoldable pub space_work : List ℕ → Header → State → ℕ → ℕ → Outcome
+unfoldable pub space_work : List ℕ → Header → State → ℕ → ℕ → Outcome State
 space_work s h st code count =
     if code ≡ᵇ to_end_of_data then ends (at_place st h.recorded) Good 0 0 else
     space_ends h st (space_run s h st.position code count)
@@ -102,7 +100,7 @@ space_work s h st code count =
 -- ---- 15h MODE SELECT
 
 -- "list length (byte 4, a field) 0, 12 or 32 .. Length 32: page bytes 2Ah 12h and speed .., else 5/26/00; other bytes ignored."
-unfoldable pub select_work : State → ℕ → List ℕ → Outcome
+unfoldable pub select_work : State → ℕ → List ℕ → Outcome State
 select_work st asked list =
     if not (asked ≡ᵇ full_list) then ends st Good 0 asked else
     speed_work st list
@@ -110,7 +108,7 @@ select_work st asked list =
 -- ---- 2Bh LOCATE
 
 -- "Above U: P = U, 8/00/05, not valid. Else P = target."
-unfoldable pub locate_work : Header → State → ℕ → Outcome
+unfoldable pub locate_work : Header → State → ℕ → Outcome State
 locate_work h st target =
     if h.recorded <ᵇ target then ends (at_place st h.recorded) (Check beyond_data) 0 0 else
     ends (at_place st target) Good 0 0

@@ -1,7 +1,6 @@
 // The work of each command, once nothing before it ended the packet.
-ghost use Rattle.std.specs.Prelude.{◌≡◌, ◌*◌, ◌^◌, ◌<◌, ◌≤◌, min, length};
+ghost use Rattle.std.specs.Prelude.{◌≡◌, ◌*◌, ◌^◌, ◌<◌, ◌≤◌, min, length, Some};
 ghost use Rattle.image.specs.Header.{header_of};
-ghost use Rattle.image.specs.declared.header.Judged.TheVariants.{Good};
 ghost use Rattle.packet_parts.specs.Answers.{done};
 ghost use Rattle.stream_parts.specs.Checks.{asked_by};
 ghost use Rattle.packet_parts.specs.Replies.{reply_ends, replied_into};
@@ -20,7 +19,7 @@ use packet_state::senses::{
     beginning_of_tape, beyond_data, early_warning, end_of_data, filemark_detected,
     unreadable_block, volume_overflow,
 };
-use packet_state::state::{Ending, Outcome, State, stand_at};
+use packet_state::state::{Ending, Outcome, State};
 use packet_work::moving::{end_moved, end_read};
 use packet_work::replies::{device_mode, inquiry, request_sense};
 use packet_work::settings::{load_unload, prevent_allow, select_speed};
@@ -38,26 +37,25 @@ fn ending_of(h: Header, stop: Stop, left: u32) -> Ending
     ensures { result ≡ ending_of h stop left }
 {
     match stop {
-        Stop::Full => Ending::Good,
-        Stop::AtFilemark => Ending::Check(filemark_detected(left)),
-        Stop::AtBadBlock => Ending::Check(unreadable_block(left)),
-        Stop::AtEnd => Ending::Check(end_of_data(is_past_warning(h, h.recorded), left)),
-        Stop::AtBeginning => Ending::Check(beginning_of_tape(left)),
+        Stop::Full => Ok(()),
+        Stop::AtFilemark => Err(filemark_detected(left)),
+        Stop::AtBadBlock => Err(unreadable_block(left)),
+        Stop::AtEnd => Err(end_of_data(is_past_warning(h, h.recorded), left)),
+        Stop::AtBeginning => Err(beginning_of_tape(left)),
     }
 }
 
-fn read(image: &[u8], h: Header, state: State, asked: u32, buf: &mut [u8]) -> Outcome
-    requires image_value { header_of image.now ≡ Good h }
+// Header and place stand in each contract: no struct beside a lent image, which WRITE changes, could keep what they say of it.
+#[tactic(auto, using(crate::proofs::WorkLaws::warning_within), unfolding(crate::specs::Work::read_work, crate::specs::Work::read_ends))]
+fn read(image: &[u8], h: Header, state: State, asked: u32, buf: &mut [u8]) -> Outcome<State>
+    requires image_value { header_of image.now ≡ Some h }
     requires position_le_recorded { state.position ≤ h.recorded }
     requires size_in_bounds { asked * h.size ≤ length buf.old }
     ensures { done result image.now buf.new ≡ read_work image.now h state asked buf.old }
 {
-    let p = state.position;
-    let size = h.size;
-    let moved = read_blocks(image, size, h.kinds, h.blocks, h.recorded, buf, asked, p);
-    let stop = moved.stop;
-    let ending = ending_of(h, stop, moved.left);
-    end_read(image, h.kinds, state, asked, size, moved, ending)
+    let moved = read_blocks(image, h, h.recorded, buf, asked, state.position);
+    let ending = ending_of(h, moved.stop, moved.left);
+    end_read(image, h, state, asked, moved, ending)
 }
 
 #[tactic(auto, unfolding(crate::specs::Work::write_ending))]
@@ -65,40 +63,38 @@ fn write_ending(h: Header, asked: u32, moved: Moved) -> Ending
     requires { h.warning ≤ h.capacity }
     ensures { result ≡ write_ending h asked moved }
 {
-    let left = moved.left;
-    let short = 1 <= left;
-    if short {
-        return Ending::Check(volume_overflow(left));
+    if moved.left >= 1 {
+        return Err(volume_overflow(moved.left));
     }
-    let warned = (1 <= asked) & is_past_warning(h, moved.place);
-    if warned {
-        return Ending::Check(early_warning());
+    if asked >= 1 && is_past_warning(h, moved.place) {
+        return Err(early_warning());
     }
-    Ending::Good
+    Ok(())
 }
 
-fn write(image: &mut [u8], h: Header, state: State, asked: u32, buf: &[u8]) -> Outcome
-    requires image_value { header_of image.old ≡ Good h }
+#[tactic(auto, using(crate::proofs::WorkLaws::warning_within), unfolding(crate::specs::Work::write_work, crate::specs::Work::write_ends))]
+fn write(image: &mut [u8], h: Header, state: State, asked: u32, buf: &[u8]) -> Outcome<State>
+    requires image_value { header_of image.old ≡ Some h }
     requires position_le_recorded { state.position ≤ h.recorded }
     requires size_in_bounds { asked * h.size ≤ length buf.now }
     ensures { done result image.new buf.now ≡ write_work image.old h state asked buf.now }
 {
     let p = state.position;
-    let size = h.size;
-    let moved = write_blocks(image, size, h.kinds, h.blocks, h.capacity, buf, asked, p);
+    let moved = write_blocks(image, h, h.capacity, buf, asked, p);
     record_to(image, p, moved.place);
     let ending = write_ending(h, asked, moved);
-    end_moved(state, asked, size, moved, ending)
+    end_moved(state, asked, h.size, moved, ending)
 }
 
 // 10h takes no bytes of the buffer; it is lent so that the promise can say that it stays.
-fn write_marks(image: &mut [u8], h: Header, state: State, asked: u32, buf: &[u8]) -> Outcome
-    requires image_value { header_of image.old ≡ Good h }
+#[tactic(auto, using(crate::proofs::WorkLaws::warning_within), unfolding(crate::specs::Work::mark_work, crate::specs::Work::write_ends))]
+fn write_marks(image: &mut [u8], h: Header, state: State, asked: u32, buf: &[u8]) -> Outcome<State>
+    requires image_value { header_of image.old ≡ Some h }
     requires position_le_recorded { state.position ≤ h.recorded }
     ensures { done result image.new buf.now ≡ mark_work image.old h state asked buf.now }
 {
     let p = state.position;
-    let moved = write_filemarks(image, h.kinds, h.capacity, asked, p);
+    let moved = write_filemarks(image, h, h.capacity, asked, p);
     record_to(image, p, moved.place);
     let ending = write_ending(h, asked, moved);
     end_moved(state, asked, 0, moved, ending)
@@ -106,119 +102,95 @@ fn write_marks(image: &mut [u8], h: Header, state: State, asked: u32, buf: &[u8]
 
 #[tactic(auto, unfolding(crate::specs::Work::space_run))]
 fn space_run(image: &[u8], h: Header, p: u32, code: u8, count: u32) -> Moved
-    requires image_value { header_of image.now ≡ Good h }
+    requires image_value { header_of image.now ≡ Some h }
     requires p_le_recorded { p ≤ h.recorded }
     requires count_bound { count < 2 ^ 24 }
     ensures { result ≡ space_run image.now h p code count }
 {
-    let kinds = h.kinds;
-    let end = h.recorded;
     let n = magnitude_of(count);
-    let back = is_back(count);
-    let over_blocks = code == OVER_BLOCKS;
-    if over_blocks {
-        if back {
-            return blocks_back(image, kinds, n, p);
-        }
-        return blocks_on(image, kinds, end, n, p);
+    match (code == OVER_BLOCKS, is_back(count)) {
+        (true, true) => blocks_back(image, h, n, p),
+        (true, false) => blocks_on(image, h, h.recorded, n, p),
+        (false, true) => marks_back(image, h, n, p),
+        (false, false) => marks_on(image, h, h.recorded, n, p),
     }
-    if back {
-        return marks_back(image, kinds, n, p);
-    }
-    marks_on(image, kinds, end, n, p)
 }
 
 // How SPACE ends after its run, which an index may have given (02, A4).
-pub fn end_space(h: Header, state: State, moved: Moved) -> Outcome
+pub fn end_space(h: Header, state: State, moved: Moved) -> Outcome<State>
     requires { h.warning ≤ h.capacity }
     ensures { result ≡ space_ends h state moved }
 {
-    let stop = moved.stop;
-    let ending = ending_of(h, stop, moved.left);
-    end(stand_at(state, moved.place), ending, 0, 0)
+    let ending = ending_of(h, moved.stop, moved.left);
+    end(state.at_place(moved.place), ending, 0, 0)
 }
 
-#[tactic(auto, unfolding(crate::specs::Work::space_work))]
-fn space(image: &[u8], h: Header, state: State, code: u8, count: u32) -> Outcome
-    requires image_value { header_of image.now ≡ Good h }
+#[tactic(auto, using(crate::proofs::WorkLaws::warning_within), unfolding(crate::specs::Work::space_work))]
+fn space(image: &[u8], h: Header, state: State, code: u8, count: u32) -> Outcome<State>
+    requires image_value { header_of image.now ≡ Some h }
     requires position_le_recorded { state.position ≤ h.recorded }
     requires count_bound { count < 2 ^ 24 }
     ensures { result ≡ space_work image.now h state code count }
 {
-    let to_end = code == TO_END_OF_DATA;
-    if to_end {
-        return end(stand_at(state, h.recorded), Ending::Good, 0, 0);
+    if code == TO_END_OF_DATA {
+        return end(state.at_place(h.recorded), Ok(()), 0, 0);
     }
-    let p = state.position;
-    end_space(h, state, space_run(image, h, p, code, count))
+    let moved = space_run(image, h, state.position, code, count);
+    end_space(h, state, moved)
 }
 
 // 12h: the device type of a tape.
 const SEQUENTIAL: u8 = 0x01;
 
-fn mode_sense(h: Header, state: State, q: Request, buf: &mut [u8]) -> Outcome
+fn mode_sense(h: Header, state: State, q: Request, buf: &mut [u8]) -> Outcome<State>
     requires { min q.length (mode_length q) ≤ length buf.old }
     ensures value { result ≡ reply_ends (mode_bytes h state q) q.length state }
     ensures buf_after { buf.new ≡ replied_into (mode_bytes h state q) q.length buf.old }
 {
-    let asked = q.length;
-    let whole = q.page % 64 == DEVICE_PAGE;
-    if whole {
-        let bytes = device_mode(h, state, 0, UNIT_BLOCKS);
-        return reply(&bytes, asked, state, buf);
+    if q.page % 64 == DEVICE_PAGE {
+        return reply(&device_mode(h, state, 0, UNIT_BLOCKS), q.length, state, buf);
     }
-    let bytes = mode_header(h, AFTER_SHORT);
-    reply(&bytes, asked, state, buf)
+    reply(&mode_header(h, AFTER_SHORT), q.length, state, buf)
 }
 
-fn read_position(h: Header, state: State, buf: &mut [u8]) -> Outcome
+fn read_position(h: Header, state: State, buf: &mut [u8]) -> Outcome<State>
     requires { (h.warning ≤ h.capacity) × (20 ≤ length buf.old) }
     ensures value { result ≡ reply_ends (position_bytes h state) 20 state }
     ensures buf_after { buf.new ≡ replied_into (position_bytes h state) 20 buf.old }
 {
-    let bytes = position_bytes(h, state);
-    reply(&bytes, POSITION_LENGTH, state, buf)
+    reply(&position_bytes(h, state), POSITION_LENGTH, state, buf)
 }
 
 #[tactic(auto, unfolding(crate::specs::Work::select_work))]
-fn mode_select(state: State, asked: u8, list: &[u8]) -> Outcome
+fn mode_select(state: State, asked: u8, list: &[u8]) -> Outcome<State>
     requires { asked ≤ length list.now }
     ensures { result ≡ select_work state asked list.now }
 {
-    let full = asked as usize == FULL_LIST;
-    if full {
+    if asked as usize == FULL_LIST {
         return select_speed(state, list);
     }
-    end(state, Ending::Good, 0, asked as u32)
+    end(state, Ok(()), 0, asked as u32)
 }
 
 #[tactic(auto, unfolding(crate::specs::Work::locate_work))]
-fn locate(h: Header, state: State, target: u32) -> Outcome
+fn locate(h: Header, state: State, target: u32) -> Outcome<State>
     ensures { result ≡ locate_work h state target }
 {
-    let beyond = h.recorded < target;
-    if beyond {
-        return end(
-            stand_at(state, h.recorded),
-            Ending::Check(beyond_data()),
-            0,
-            0,
-        );
+    if h.recorded < target {
+        return end(state.at_place(h.recorded), Err(beyond_data()), 0, 0);
     }
-    end(stand_at(state, target), Ending::Good, 0, 0)
+    end(state.at_place(target), Ok(()), 0, 0)
 }
 
-#[tactic(auto, unfolding(stream_parts::specs::Checks::asked_by))]
-pub fn work(image: &mut [u8], h: Header, state: State, q: Request, buf: &mut [u8]) -> Outcome
+#[tactic(auto, using(crate::proofs::WorkLaws::room_for_position, crate::proofs::WorkLaws::warning_within), unfolding(crate::specs::Work::work_of, stream_parts::specs::Checks::asked_by))]
+pub fn work(image: &mut [u8], h: Header, state: State, q: Request, buf: &mut [u8]) -> Outcome<State>
     requires passed { Passed image.old h state q }
     requires q_in_bounds { (asked_by q.command h q).needed ≤ length buf.old }
     ensures { done result image.new buf.new ≡ work_of q.command image.old h state q buf.old }
 {
-    let command = q.command;
-    match command {
-        Command::Unknown => end(state, Ending::Good, 0, 0),
-        Command::TestUnitReady => end(state, Ending::Good, 0, 0),
-        Command::Rewind => end(stand_at(state, 0), Ending::Good, 0, 0),
+    match q.command {
+        Command::Unknown | Command::TestUnitReady => end(state, Ok(()), 0, 0),
+        Command::Rewind => end(state.at_place(0), Ok(()), 0, 0),
         Command::RequestSense => request_sense(state, q.length, buf),
         Command::Read => read(image, h, state, q.count, buf),
         Command::Write => write(image, h, state, q.count, buf),

@@ -1,19 +1,18 @@
 -- `work::mode_sense` meets its contract.
 use mathlib.Core.Path.{◌∙◌}
-use borrow.Author.Tests.{eq-eqb, ne_eqb}
 use Rattle.packet_parts.proofs.ReplyLaws.{replied_as}
 use Rattle.floppy.proofs.WorkLaws.{device_shown, tape_shown}
 use Rattle.floppy.proofs.work.mode_sense.Goals as goal
 
-pub returns-then-device : goal.returns-then-device
-returns-then-device c =
-    let e = device_shown c.args.h c.args.state c.args.tape c.args.q (eq-eqb _ _ c.if-device.true) in
+pub returns-in-42 : goal.returns-in-42
+returns-in-42 c =
+    let e = device_shown c.args.h c.args.floppy.shared c.args.floppy.tape c.args.q c.in-42.is in
     let r = replied_as _ _ _ _ _ _ _ (c.device_mode-bytes.ensures ∙ e) c.reply.ensures.0 c.reply.ensures.1 in
     record { value = r.0; buf_after = r.1 }
 
-pub returns-then-parameters : goal.returns-then-parameters
-returns-then-parameters c =
-    let e = tape_shown c.args.h c.args.state c.args.tape c.args.q (ne_eqb _ _ c.if-device.false) (eq-eqb _ _ c.if-parameters.true) in
-    let d = c.reply-then-parameters in
-    let r = replied_as _ _ _ _ _ _ _ (c.tape_mode-bytes.ensures ∙ e) d.ensures.0 d.ensures.1 in
+pub returns-in-43 : goal.returns-in-43
+returns-in-43 c =
+    let e = tape_shown c.args.h c.args.floppy.shared c.args.floppy.tape c.args.q c.in-43.is in
+    let d = c.reply-in-43 in
+    let r = replied_as _ _ _ _ _ _ _ (c.tape_mode.ensures ∙ e) d.ensures.0 d.ensures.1 in
     record { value = r.0; buf_after = r.1 }

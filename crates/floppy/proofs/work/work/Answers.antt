@@ -6,8 +6,8 @@ use Rattle.floppy_parts.specs.Checks.{asked_by}
 use Rattle.floppy_parts.proofs.AskedLaws.{needed_as}
 use Rattle.floppy.proofs.work.work.Goals as goal
 
-pub end_of-last-requires : goal.end_of-last-requires
-end_of-last-requires c = let g = sound _ _ c.requires.passed.header in omega (arith, c.requires.passed.within)
+pub end-last-requires : goal.end-last-requires
+end-last-requires c = let g = sound _ _ c.requires.passed.header in omega (arith, c.requires.passed.within)
 
 pub mode_select-requires : goal.mode_select-requires
 unfolding asked_by

@@ -2,7 +2,6 @@
 use native.Mathlib.Omega.{arith}
 use Rattle.image.proofs.HeaderLaws.{sound}
 use Rattle.transfer.proofs.ReadLaws.{came-less, came-few}
-use Rattle.stream.proofs.WorkLaws.{read_went}
 use Rattle.stream.proofs.work.read.Goals as goal
 
 pub read_blocks-moved-requires : goal.read_blocks-moved-requires
@@ -17,9 +16,6 @@ read_blocks-moved-requires c =
       size_in_bounds_2 = c.requires.size_in_bounds;
     }
 
-pub ending_of-ending-requires : goal.ending_of-ending-requires
-ending_of-ending-requires c = let g = sound _ _ c.requires.image_value in omega arith
-
 pub end_read-requires : goal.end_read-requires
 end_read-requires c =
     let g = sound _ _ c.requires.image_value in
@@ -27,6 +23,3 @@ end_read-requires c =
     let l = came-less _ _ _ _ _ _ _ _ _ _ _ run in
     let f = came-few _ _ _ _ _ _ _ _ _ _ _ run (omega arith) in
     record { size_bound = omega arith; left_le_asked = omega arith; left_bound = omega arith; left_in_bounds = omega arith }
-
-pub returns : goal.returns
-returns c = search read_went

@@ -2,7 +2,6 @@
 use native.Mathlib.Omega.{arith}
 use Rattle.image.proofs.HeaderLaws.{sound}
 use Rattle.transfer.proofs.StopLaws.{laid-less, laid-few}
-use Rattle.stream.proofs.WorkLaws.{mark_went}
 use Rattle.stream.proofs.work.write_marks.Goals as goal
 
 pub write_filemarks-moved-requires : goal.write_filemarks-moved-requires
@@ -13,9 +12,6 @@ write_filemarks-moved-requires c =
 pub record_to-requires : goal.record_to-requires
 record_to-requires c = let g = sound _ _ c.requires.image_value in omega arith
 
-pub write_ending-ending-requires : goal.write_ending-ending-requires
-write_ending-ending-requires c = let g = sound _ _ c.requires.image_value in omega arith
-
 pub end_moved-requires : goal.end_moved-requires
 end_moved-requires c =
     let g = sound _ _ c.requires.image_value in
@@ -23,6 +19,3 @@ end_moved-requires c =
     let l = laid-less _ _ _ _ _ _ _ _ run in
     let f = laid-few _ _ _ _ _ _ _ _ run (omega arith) in
     record { size_bound = omega arith; left_le_asked = omega arith }
-
-pub returns : goal.returns
-returns c = search mark_went

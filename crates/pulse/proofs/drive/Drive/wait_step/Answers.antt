@@ -6,7 +6,7 @@ pub loop-used-init : goal.loop-used-init
 loop-used-init c = start _ _
 
 pub returns-then-is_ready : goal.returns-then-is_ready
-returns-then-is_ready c = c.accept_wait.ensures ∙ ready_answer _ _ _ _ (sym c.is_ready.ensures ∙ c.if-is_ready.true) c.loop-used.invariant
+returns-then-is_ready c = ready_answer _ _ _ _ c.loop-used.invariant (sym c.is_ready.ensures ∙ c.if-is_ready.true)
 
 pub loop-used-preserved : goal.loop-used-preserved
 loop-used-preserved c =
@@ -14,4 +14,4 @@ loop-used-preserved c =
     rw c.tick_step-now.ensures (again _ _ _ _ c.loop-used-test.true moving c.loop-used.invariant)
 
 pub returns : goal.returns
-returns c = c.accept_wait-2.ensures ∙ limit_answer _ _ _ _ c.loop-used-test.false c.loop-used.invariant
+returns c = limit_answer _ _ _ _ c.loop-used.invariant c.loop-used-test.false c.loop-used.auto.used-end
