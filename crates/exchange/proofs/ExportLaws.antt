@@ -123,8 +123,6 @@ module _ (s : List ℕ) (h : Header) (good : header_of s ≡ Some h) (i n : ℕ)
       let w = rw (ahead_none s h i (omega arith)) at g.whole in
       (omega (arith, w, file_end_length), omega (arith, g.most))
 
-pub ruleset length_ways = (sound, measure_start, measure_next, measure_done)
-
 -- ---- the loop of `write_elements`
 
 -- the elements from i on, written from here on, give the whole file
@@ -165,7 +163,7 @@ module _ (s : List ℕ) (h : Header) (file₀ file : List ℕ) (i at : ℕ) (g :
         → file' ≡ over file₀ 0 (file_of (elements_from s h h.recorded 0))
     write_done file' e = let w = rw (ahead_none s h i l) at g.whole in e ∙ rw file_end at w
 
-pub ruleset write_ways = (sound, write_start, write-room, write-next, end-room, write_done)
+pub ruleset write_ways = (write_start, write-room, end-room)
 
 -- ---- the ways of `export`
 
@@ -183,5 +181,3 @@ module _ (s file : List ℕ) where
         → t ≡ told 0 h.recorded needed → exported (answer_of (Ok t)) file' ≡ exports s file
     unfolding exports elements_of
     export-well file' t l e f = rw (keeps_of s h good, fields_are s h good, e, f, ← measured, le-ltb (length file) needed l) refl
-
-pub ruleset export_ways = (export_broken, export-short, export-well)

@@ -126,7 +126,7 @@ module _ (h : Header) (file s₀ s : List ℕ) (n i at : ℕ) (g : Storing h fil
       none [] l = refl
       none (e ∷ es) l = absurd (omega arith)
 
-pub ruleset store_ways = (sound, store_start, store-taken, store-next, store_done)
+pub ruleset store_ways = (store-taken, store_done)
 
 -- ---- the ways of `import`
 
@@ -163,4 +163,4 @@ module _ (s : List ℕ) (st : State) (file : List ℕ) where
           let z = found_holds reading found judged in
           rw (keeps_of s h good, fields_are s h good, z, ← elements-found, f, e, a, b) refl
 
-pub ruleset import_ways = (sound, import_broken, import-refused, elements-found, used_most, import-taken)
+pub ruleset import_ways = (import_broken, import-refused, elements-found, used_most)

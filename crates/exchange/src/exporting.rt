@@ -26,7 +26,7 @@ fn element_length(kind: Kind, size: u16) -> usize
 }
 
 // image and header are two parameters: tied in one type, their clauses are no shorter, and an import, which changes its image, could not use it
-#[tactic(auto, using(crate::proofs::ExportLaws::length_ways))]
+#[tactic(auto, using(crate::proofs::ExportLaws::measure_start))]
 fn export_length(image: &[u8], h: Header) -> usize
     requires { header_of image.now ≡ Some h }
     ensures { (result ≡ length (file_of (elements_from image.now h h.recorded 0))) × (result ≤ 67632124) }
@@ -69,7 +69,7 @@ fn write_elements(image: &[u8], h: Header, file: &mut [u8])
 }
 
 // "export gives 2, then 4 where its output buffer is too short": it is measured before the first byte is written.
-#[tactic(auto, using(crate::proofs::ExportLaws::export_ways))]
+#[tactic(auto, using(crate::proofs::ExportLaws::export_broken))]
 pub fn export(image: &[u8], file: &mut [u8]) -> Result<Told, Refusal>
     ensures { ExportPromise image.now file.old result file.new }
 {
