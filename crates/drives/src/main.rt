@@ -12,5 +12,7 @@ use std::io;
 
 fn main(rt: HostRuntime) -> io::Result<()> {
     let mut drive = Drive::power_on(0, 0);
-    run_script(&mut rt.stdin(), |line| script::obey(&rt, &mut drive, line))
+    run_script(&rt, &mut rt.stdin(), |letter, spelled| {
+        script::obey(&rt, &mut drive, letter, spelled)
+    })
 }

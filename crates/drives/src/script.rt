@@ -11,7 +11,6 @@
 // Any other line is answered as one that the script may not have.
 use crate::calls::Drive;
 use lines::line::bytes_of;
-use lines::show;
 use numbers::counts::pair;
 use std::io;
 
@@ -25,22 +24,20 @@ fn store(rt: &impl Print, drive: &mut Drive, place: u16, values: &[u8]) -> io::R
     drive.show_record(rt)
 }
 
-fn no_line(rt: &impl Print, line: &[u8]) -> io::Result<()> {
+fn no_line(rt: &impl Print, letter: u8, spelled: &[u8]) -> io::Result<()> {
     rt.print("no line of a script: ")?;
-    rt.write_all(line)
+    rt.write_all(&[letter])?;
+    rt.write_all(spelled)
 }
 
 // The letter says what is called, and the bytes are to be all that is after it.
-fn call(rt: &impl Print, drive: &mut Drive, line: &[u8]) -> io::Result<()> {
-    let Some((letter, spelled)) = line.split_first() else {
-        return no_line(rt, line);
-    };
+fn call(rt: &impl Print, drive: &mut Drive, letter: u8, spelled: &[u8]) -> io::Result<()> {
     let read = bytes_of(spelled);
     let bytes = read.as_slice();
     if spelled.len() != 3 * bytes.len() {
-        return no_line(rt, line);
+        return no_line(rt, letter, spelled);
     }
-    match (*letter, bytes) {
+    match (letter, bytes) {
         (b'o', [high, low, rom]) => drive.restart(rt, pair(*high, *low), *rom),
         (b't', [high, low]) => drive.train(rt, pair(*high, *low), 0),
         (b't', [high, low, twos]) => drive.train(rt, pair(*high, *low), *twos),
@@ -53,14 +50,11 @@ fn call(rt: &impl Print, drive: &mut Drive, line: &[u8]) -> io::Result<()> {
         }
         (b'p', []) => drive.show_parts(rt),
         (b'x', []) => drive.show_record(rt),
-        _ => no_line(rt, line),
+        _ => no_line(rt, letter, spelled),
     }
 }
 
-pub fn obey(rt: &impl Print, drive: &mut Drive, line: &[u8]) -> io::Result<()> {
-    if show::said(rt, line)? {
-        return Ok(());
-    }
-    call(rt, drive, line)?;
+pub fn obey(rt: &impl Print, drive: &mut Drive, letter: u8, spelled: &[u8]) -> io::Result<()> {
+    call(rt, drive, letter, spelled)?;
     rt.write_all(b"\n")
 }

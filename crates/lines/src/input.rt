@@ -22,8 +22,15 @@ fn read_full(input: &mut impl Read, buf: &mut [u8]) -> usize
     done
 }
 
-// The lines of a script of at most 65,536 bytes, one after the other, up to the first that fails.
-pub fn run_script<F: FnMut(&[u8]) -> io::Result<()>>(
+fn print_line(rt: &impl Print, words: &[u8]) -> io::Result<()> {
+    rt.write_all(words)?;
+    rt.write_all(b"\n")
+}
+
+// The lines of a script of at most 65,536 bytes, one after the other, up to the first that fails: what is after " is printed as it
+// stands, what is after = as a line of its own, and any other letter is obeyed, with what is after it. An empty line says nothing.
+pub fn run_script<F: FnMut(u8, &[u8]) -> io::Result<()>>(
+    rt: &impl Print,
     input: &mut impl Read,
     mut obey: F,
 ) -> io::Result<()>
@@ -32,7 +39,12 @@ pub fn run_script<F: FnMut(&[u8]) -> io::Result<()>>(
     let mut text = [0u8; MOST];
     let n = read_full(input, &mut text);
     for line in text[..n].split(|byte| *byte == b'\n') {
-        obey(line)?;
+        match line {
+            [] => {}
+            [b'"', words @ ..] => rt.write_all(words)?,
+            [b'=', words @ ..] => print_line(rt, words)?,
+            [letter, spelled @ ..] => obey(*letter, spelled)?,
+        }
     }
     Ok(())
 }

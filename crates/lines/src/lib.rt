@@ -3,4 +3,4 @@
 
 pub mod input; // input.rt: a script read, and run line by line
 pub mod line; // line.rt: the bytes in hexadecimal of a line
-pub mod show; // show.rt: text and bytes on standard output
+pub mod show; // show.rt: bytes in hexadecimal, printed

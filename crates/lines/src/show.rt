@@ -1,5 +1,5 @@
-// Text and bytes on standard output.
-use std::{fmt, io};
+// How bytes are printed.
+use std::fmt;
 
 // Bytes in hexadecimal, each after a space.
 #[derive(Clone, Copy)]
@@ -12,18 +12,4 @@ impl fmt::Display for Hex<'_> {
         }
         Ok(())
     }
-}
-
-// Whether the line is text to print: after " as it stands, after = as a line of its own. An empty line prints nothing.
-pub fn said(rt: &impl Print, line: &[u8]) -> io::Result<bool> {
-    match line {
-        [] => {}
-        [b'"', words @ ..] => rt.write_all(words)?,
-        [b'=', words @ ..] => {
-            rt.write_all(words)?;
-            rt.write_all(b"\n")?;
-        }
-        _ => return Ok(false),
-    }
-    Ok(true)
 }

@@ -12,5 +12,7 @@ use std::io;
 
 fn main(rt: HostRuntime) -> io::Result<()> {
     let mut card = Card::plate();
-    run_script(&mut rt.stdin(), |line| script::obey(&rt, &mut card, line))
+    run_script(&rt, &mut rt.stdin(), |letter, spelled| {
+        script::obey(&rt, &mut card, letter, spelled)
+    })
 }

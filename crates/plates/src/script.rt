@@ -7,7 +7,6 @@
 //   x, y, w  AA AA NN: prints bytes of the data buffer, of the image, of the record
 use crate::card::Card;
 use lines::line::bytes_of;
-use lines::show;
 use lines::show::Hex;
 use numbers::counts::pair;
 use std::io;
@@ -40,16 +39,10 @@ fn show_part(rt: &impl Print, src: &[u8], bytes: &[u8]) -> io::Result<()> {
     println!(rt; "{part}")
 }
 
-pub fn obey(rt: &impl Print, card: &mut Card, line: &[u8]) -> io::Result<()> {
-    if show::said(rt, line)? {
-        return Ok(());
-    }
-    let Some((letter, spelled)) = line.split_first() else {
-        return Ok(());
-    };
+pub fn obey(rt: &impl Print, card: &mut Card, letter: u8, spelled: &[u8]) -> io::Result<()> {
     let read = bytes_of(spelled);
     let bytes = read.as_slice();
-    match *letter {
+    match letter {
         b'n' => *card = Card::plate(),
         b'f' => tapecard_fresh(&mut card.state),
         b'c' => tapecard_change(&mut card.state),
