@@ -53,7 +53,7 @@ refused d number = record { number = number; level = false; drive = d }
 abbrev pub accepted : Drive → Step
 accepted d = record { number = not_refused; level = d.level; drive = d }
 
--- what the result of a call on d tells: the next drive, or why d stays
+-- what the result of a call on d tells: the next drive, or the refusal, and d stays
 abbrev pub told : Drive → Result Drive Refusal → Step
 told d (Ok next) = accepted next
 told d (Err refusal) = refused d (number_of refusal)

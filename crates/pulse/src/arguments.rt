@@ -34,8 +34,7 @@ impl Drive {
         ensures { result ≡ nibble_taken self w.code w.held w.value nibble }
     {
         let value = w.join(nibble);
-        let more = w.held as u16 + 1 < arguments::needed_arguments(w.code) as u16;
-        if more {
+        if w.held as u16 + 1 < arguments::needed_arguments(w.code) as u16 {
             return self.with_waiting(Some(Waiting {
                 held: w.held + 1,
                 value,

@@ -3,7 +3,7 @@ ghost use Rattle.std.specs.Prelude.{◌≡◌};
 ghost use Rattle.pulse.specs.Motions.{stopped, load_ended, load_started, run_started, latched, motion_ended, arrived, ticked};
 
 use crate::drive::Drive;
-use pulse_parts::{Head, Motion};
+use pulse_parts::{Head, Marks, Motion};
 
 impl Drive {
     pub(crate) fn stop(self) -> Self
@@ -15,9 +15,14 @@ impl Drive {
     pub(crate) fn end_load(self) -> Self
         ensures { result ≡ load_ended self }
     {
-        let mut d = self.with_head(Head::standing_at(0));
-        d.marks.referenced = self.cart.burst;
-        d
+        Drive {
+            head: Head::standing_at(0),
+            marks: Marks {
+                referenced: self.cart.burst,
+                ..self.marks
+            },
+            ..self
+        }
     }
 
     #[tactic(auto, unfolding(crate::specs::Motions::load_started))]

@@ -1,4 +1,4 @@
-// The pulse codes (000, table 2a) and what 01 says of each.
+// The pulse codes (000, table 2a) and what 01 says of each. They are numbers: a train may have any count of pulses.
 ghost use Rattle.std.specs.Prelude.{◌≡◌, not, ◌<◌};
 ghost use Rattle.pulse_codes.specs.Codes.{supported, ignored, is_report, is_skip, stops_motion, needs_cartridge, needs_reference};
 

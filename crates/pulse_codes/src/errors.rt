@@ -1,8 +1,6 @@
-// The error numbers (000, section 3.5) that 01 admits.
+// The error numbers (000, section 3.5) that 01 admits. They are bytes: a record may hold any until its rules are judged.
 ghost use Rattle.std.specs.Prelude.{◌≡◌};
 ghost use Rattle.pulse_codes.specs.Errors.{admitted};
-
-use numbers::tables;
 
 pub const NO_ERROR: u8 = 0;
 
@@ -24,21 +22,22 @@ pub const POWER_ON_RESET: u8 = 26;
 
 pub const SOFTWARE_RESET: u8 = 27;
 
-const ADMITTED: [u16; 10] = [
-    NO_ERROR as u16,
-    NOT_READY as u16,
-    CARTRIDGE_MISSING as u16,
-    UNDEFINED_COMMAND as u16,
-    ILLEGAL_TRACK as u16,
-    ILLEGAL_IN_REPORT as u16,
-    NEW_CARTRIDGE_PENDING as u16,
-    NOT_REFERENCED as u16,
-    POWER_ON_RESET as u16,
-    SOFTWARE_RESET as u16,
+const ADMITTED: [u8; 10] = [
+    NO_ERROR,
+    NOT_READY,
+    CARTRIDGE_MISSING,
+    UNDEFINED_COMMAND,
+    ILLEGAL_TRACK,
+    ILLEGAL_IN_REPORT,
+    NEW_CARTRIDGE_PENDING,
+    NOT_REFERENCED,
+    POWER_ON_RESET,
+    SOFTWARE_RESET,
 ];
 
+#[tactic(auto, using(numbers::proofs::MemberLaws::is_any))]
 pub fn is_admitted(error: u8) -> bool
     ensures { result ≡ admitted error }
 {
-    tables::is_in(error as u16, &ADMITTED)
+    ADMITTED.contains(&error)
 }
