@@ -1,5 +1,6 @@
 -- The check for 10: an index is fresh exactly where its entries are those of a fresh one.
 -- Assumes nothing.
+use Rattle.std.specs.Prelude.{Option, Some, None}
 use mathlib.Core.Path.{◌≡◌, refl, sym, ap, ◌∙◌}
 use mathlib.Core.Bool.{Bool, true, false, ◌&&◌}
 use mathlib.Core.List.{List, [], ◌∷◌, ◌++◌}
@@ -16,11 +17,8 @@ use Rattle.numbers.proofs.Cases.{and_l, and_r, and_i, test, never}
 use Rattle.numbers.proofs.CountLaws.{bytes_of_count}
 use Rattle.numbers.proofs.SameLaws.{same_self}
 use Rattle.image.specs.declared.header.Header.{Header}
-use Rattle.image.specs.declared.header.Judged.TheVariants.{Good}
 use Rattle.image.specs.Header.{header_of}
 use Rattle.image.proofs.HeaderLaws.{fields_are, sound}
-use Rattle.index.specs.declared.checking.Compared.{Compared}
-use Rattle.index.specs.declared.checking.Compared.TheVariants.{Differs, Same}
 use Rattle.index.specs.Checking.{holds_entries, compared_with, are_blank}
 use Rattle.index.specs.Entries.{marks_from, filemarks_of, no_filemark, entries_of, entry_bytes, fresh_index, is_fresh}
 use Rattle.index.specs.Spacing.{entry_at}
@@ -57,7 +55,7 @@ held_bytes index (e ∷ es) n b l h =
     ∙ ap (λ (xs : List ℕ). count_bytes 4 e ++ take (4 * length es) xs) (drop-drop 4 (4 * n) index)
     ∙ ap (λ (i : ℕ). count_bytes 4 e ++ part index i (4 * length es)) z ∙ ap (λ (xs : List ℕ). count_bytes 4 e ++ xs) rest
 
-module _ (s : List ℕ) (h : Header) (good : header_of s ≡ Good h) where
+module _ (s : List ℕ) (h : Header) (good : header_of s ≡ Some h) where
   pub entries_count : length (entries_of s) ≡ h.capacity
   unfolding entries_of filemarks_of
   entries_count =
@@ -104,7 +102,7 @@ module _ (s : List ℕ) (h : Header) (good : header_of s ≡ Good h) where
           ∙ sym (holds_append index marks (replicate (h.capacity - length marks) no_filemark) 0)
           ∙ rw (fields_are s h good) at held-is-fresh
 
-      pub found-differing : (x : Compared) (r : Bool) → x ≡ compared_with index (marks_from s h.kinds h.recorded 0) → x ≡ Differs → r ≡ false
+      pub found-differing : (x : Option ℕ) (r : Bool) → x ≡ compared_with index (marks_from s h.kinds h.recorded 0) → x ≡ None → r ≡ false
           → r ≡ is_fresh s index
       unfolding compared_with
       found-differing x r e d t =
@@ -112,7 +110,7 @@ module _ (s : List ℕ) (h : Header) (good : header_of s ≡ Good h) where
           let q = differs_by (holds_entries index 0 marks) (length marks) (sym e ∙ d) in
           t ∙ rw q at parts_are
 
-      pub found-same : (x : Compared) (n : ℕ) (r : Bool) → x ≡ compared_with index (marks_from s h.kinds h.recorded 0) → x ≡ Same n
+      pub found-same : (x : Option ℕ) (n : ℕ) (r : Bool) → x ≡ compared_with index (marks_from s h.kinds h.recorded 0) → x ≡ Some n
           → r ≡ are_blank (part index (4 * n) (4 * h.capacity - 4 * n)) → r ≡ is_fresh s index
       unfolding compared_with
       found-same x n r e d t =

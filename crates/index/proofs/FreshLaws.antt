@@ -1,5 +1,6 @@
 -- What an index that is fresh tells of its image.
 -- Assumes nothing.
+use Rattle.std.specs.Prelude.{Some}
 use mathlib.Core.Path.{◌≡◌, sym, ap, ◌∙◌}
 use mathlib.Core.Bool.{true}
 use mathlib.Core.List.{List, ◌++◌, append_assoc}
@@ -13,7 +14,6 @@ use Rattle.numbers.specs.Over.{over}
 use Rattle.numbers.proofs.Cases.{test}
 use Rattle.numbers.proofs.SameLaws.{same_of}
 use Rattle.image.specs.declared.header.Header.{Header}
-use Rattle.image.specs.declared.header.Judged.TheVariants.{Good}
 use Rattle.image.specs.Header.{header_of}
 use Rattle.image.proofs.HeaderLaws.{fields_are, sound}
 use Rattle.index.specs.Entries.{marks_from, filemarks_of, no_filemark, entries_of, entry_bytes, fresh_index, is_fresh}
@@ -126,7 +126,7 @@ unfolding is_fresh fresh_index
 fresh_bytes s index e = same_of index (over index 0 (entry_bytes (entries_of s))) e
 
 -- the entries of an image, parted at place p
-pub entries_parted : (s : List ℕ) (h : Header) (p : ℕ) → header_of s ≡ Good h → p ≤ h.recorded
+pub entries_parted : (s : List ℕ) (h : Header) (p : ℕ) → header_of s ≡ Some h → p ≤ h.recorded
     → entries_of s
     ≡ parted s h.kinds h.recorded p
     (h.capacity - (length (marks_from s h.kinds p 0) + length (marks_from s h.kinds (h.recorded - p) p)))
@@ -139,7 +139,7 @@ entries_parted s h p good l =
 abbrev pub rest_of : List ℕ → List ℕ → List ℕ
 rest_of s index = drop (length (entry_bytes (entries_of s))) index
 
-pub fresh_parted : (s : List ℕ) (h : Header) (p : ℕ) (index : List ℕ) → header_of s ≡ Good h → is_fresh s index ≡ true → p ≤ h.recorded
+pub fresh_parted : (s : List ℕ) (h : Header) (p : ℕ) (index : List ℕ) → header_of s ≡ Some h → is_fresh s index ≡ true → p ≤ h.recorded
     → Parted s h.kinds h.capacity h.recorded p index
     (h.capacity - (length (marks_from s h.kinds p 0) + length (marks_from s h.kinds (h.recorded - p) p))) (rest_of s index)
 fresh_parted s h p index good fresh l =

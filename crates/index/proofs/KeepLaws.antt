@@ -1,5 +1,6 @@
 -- The ways of `keep`: what a packet leaves, and the index beside it.
 -- Assumes nothing.
+use Rattle.std.specs.Prelude.{Some, Result, Err}
 use mathlib.Core.Path.{◌≡◌, refl, sym, ap, ◌∙◌}
 use mathlib.Core.Bool.{Bool, true, false, ◌&&◌, false≢true}
 use mathlib.Core.List.{List}
@@ -11,8 +12,8 @@ use lib.ListN.{length}
 use Rattle.numbers.specs.Choice.{◌≡ᵇ◌}
 use Rattle.numbers.proofs.Cases.{and_l, and_r, test}
 use Rattle.numbers.proofs.SameLaws.{same_of}
+use Rattle.numbers.specs.declared.refusals.Refusal.{Refusal}
 use Rattle.image.specs.declared.header.Header.{Header}
-use Rattle.image.specs.declared.header.Judged.TheVariants.{Good}
 use Rattle.image.specs.Elements.{kind_at}
 use Rattle.image.specs.Header.{header_of, with_recorded}
 use Rattle.image.proofs.HeaderLaws.{fields_are, keeps_of}
@@ -26,7 +27,7 @@ use Rattle.packet_state.specs.declared.state.Verdict.{Verdict}
 use Rattle.packet_state.specs.declared.state.Verdict.TheVariants.{Refuses, Ends, Works}
 use Rattle.packet_state.proofs.RecordLaws.{ruly_of}
 use Rattle.packet_parts.specs.declared.requests.Request.{Request}
-use Rattle.packet_parts.specs.Answers.{Left, done}
+use Rattle.packet_parts.specs.Answers.{Left, done, left}
 use Rattle.packet_parts.specs.Shell.{found_by, carried_out}
 use Rattle.stream_parts.specs.Requests.{request_of, space_code, over_filemarks}
 use Rattle.stream.specs.Packet.{stream_device, packet_step}
@@ -94,7 +95,7 @@ module _ (s : List ℕ) (h : Header) (index : List ℕ) (st : State) (packet buf
       ap (λ (y : Left State). fresh_index y.image index) (sym e) ∙ ap (λ (t : List ℕ). fresh_index t index) i ∙ fresh_stays s index b.fresh in
       ap (λ (y : Left State). indexed y index) e ∙ ap (λ (t : List ℕ). indexed (packet_step s st packet buf) t) (sym z)
 
-  pub by_index : (q : Request) (v : Verdict) (a : Bool) (moved : Moved) (r : Outcome) → q ≡ request_of packet → v ≡ found_by stream_device h st q (length buf)
+  pub by_index : (q : Request) (v : Verdict) (a : Bool) (moved : Moved) (r : Outcome State) → q ≡ request_of packet → v ≡ found_by stream_device h st q (length buf)
       → a ≡ by_entries v q → a ≡ true → moved ≡ run_by_entries index h st.position q.count → r ≡ space_ends h st moved
       → indexed (done r s buf) index ≡ afresh index (packet_step s st packet buf)
   unfolding carried_out
@@ -110,8 +111,16 @@ module _ (s : List ℕ) (h : Header) (index : List ℕ) (st : State) (packet buf
       p ∙ rw w (space_work_lem s h st q buf k c) in
       kept_image (done r s buf) (rw (o, n) (sym d)) refl
 
+  -- a refused packet stores nothing
+  pub refused : (x : Result (Outcome State) Refusal) (r : Refusal) (s' b' : List ℕ) → x ≡ Err r → left st x s' b' ≡ packet_step s st packet buf
+      → indexed (left st (Err r) s' b') index ≡ afresh index (packet_step s st packet buf)
+  refused x r s' b' e g =
+      let f : left st (Err r) s' b' ≡ packet_step s st packet buf = rw e at g in
+      kept_image (left st (Err r) s' b') f
+      (ap (λ (x : Left State). x.image) f ∙ none_stored s st packet buf (sym (ap (λ (x : Left State). blocks_of x) f)))
+
   -- a packet that counts none, or whose command does not store, leaves the image
-  pub not_stored : (q : Request) (a : Bool) (r : Outcome) (s' b' : List ℕ) → q ≡ request_of packet → done r s' b' ≡ packet_step s st packet buf
+  pub not_stored : (q : Request) (a : Bool) (r : Outcome State) (s' b' : List ℕ) → q ≡ request_of packet → done r s' b' ≡ packet_step s st packet buf
       → a ≡ stores_on q.command → (a && leb 1 r.answer.blocks) ≡ false
       → indexed (done r s' b') index ≡ afresh index (packet_step s st packet buf)
   not_stored q a r s' b' e f g t = kept_image (done r s' b') f (ap (λ (x : Left State). x.image) f ∙ by a (sym g) t)
@@ -129,13 +138,13 @@ module _ (s : List ℕ) (h : Header) (index : List ℕ) (st : State) (packet buf
           (omega (arith, leb-false 1 r.answer.blocks v, ap (λ (y : Left State). blocks_of y) f))
 
   -- a store
-  pub record Stored (r : Outcome) (t : List ℕ) : Type 0 where
-    pub header : header_of t ≡ Good (with_recorded h r.state.position)
+  pub record Stored (r : Outcome State) (t : List ℕ) : Type 0 where
+    pub header : header_of t ≡ Some (with_recorded h r.state.position)
     pub reached : st.position ≤ r.state.position
     pub index-left : rewritten t h st.position r.state.position index ≡ fresh_index t index
     pub size : length t ≡ length s
 
-  pub stored : (q : Request) (a : Bool) (r : Outcome) (s' b' : List ℕ) → q ≡ request_of packet → done r s' b' ≡ packet_step s st packet buf
+  pub stored : (q : Request) (a : Bool) (r : Outcome State) (s' b' : List ℕ) → q ≡ request_of packet → done r s' b' ≡ packet_step s st packet buf
       → a ≡ stores_on q.command → (a && leb 1 r.answer.blocks) ≡ true → Stored r s'
   stored q a r s' b' e f g t =
       let x = packet_step s st packet buf in
@@ -148,8 +157,8 @@ module _ (s : List ℕ) (h : Header) (index : List ℕ) (st : State) (packet buf
       let p = ap (λ (y : Left State). y.state.position) f in
       let u = w.new_u d n ∙ sym p in
       let i = ap (λ (y : Left State). y.image) f in
-      let l : header_of s' ≡ Good (with_recorded h r.state.position) =
-      ap header_of i ∙ w.header ∙ ap (λ (k : Header). Good (with_recorded k w.u)) (fields_are s h b.header) ∙ ap (λ (k : ℕ). Good (with_recorded h k)) u in
+      let l : header_of s' ≡ Some (with_recorded h r.state.position) =
+      ap header_of i ∙ w.header ∙ ap (λ (k : Header). Some (with_recorded k w.u)) (fields_are s h b.header) ∙ ap (λ (k : ℕ). Some (with_recorded h k)) u in
       let m : st.position ≤ r.state.position = omega (arith, w.reached, u) in
       record {
         header = l;
@@ -160,7 +169,7 @@ module _ (s : List ℕ) (h : Header) (index : List ℕ) (st : State) (packet buf
         size = ap (λ (y : List ℕ). length y) i ∙ w.image_length;
       }
 
-  pub rewrote : (r : Outcome) (s' b' index' : List ℕ) → done r s' b' ≡ packet_step s st packet buf → Stored r s'
+  pub rewrote : (r : Outcome State) (s' b' index' : List ℕ) → done r s' b' ≡ packet_step s st packet buf → Stored r s'
       → index' ≡ rewritten s' h st.position r.state.position index
       → indexed (done r s' b') index' ≡ afresh index (packet_step s st packet buf)
   rewrote r s' b' index' f g e =

@@ -1,6 +1,6 @@
 -- The loops over an index, one entry at a time: what is left to do gives what the whole gives.
 -- Assumes nothing.
-use Rattle.std.specs.Prelude.{if◌then◌else◌}
+use Rattle.std.specs.Prelude.{if◌then◌else◌, Option, Some, None}
 use mathlib.Core.Path.{◌≡◌, refl, sym, ap, ◌∙◌}
 use mathlib.Core.Bool.{Bool, true, false, ◌&&◌, true≢false}
 use mathlib.Core.List.{List, [], ◌∷◌, ◌++◌}
@@ -12,12 +12,10 @@ use lib.ListN.{length, get_or, replicate}
 use Rattle.numbers.specs.Counts.{put_count, count_bytes}
 use Rattle.numbers.specs.Over.{over, part}
 use Rattle.numbers.proofs.Cases.{test}
-use Rattle.numbers.proofs.CountLaws.{bytes_length, put_count_over, length_put_count}
+use Rattle.numbers.proofs.CountLaws.{bytes_length, put_count_over}
 use Rattle.numbers.proofs.OverLaws.{over_more, over_none, part_first}
 use Rattle.image.specs.declared.elements.Kind.{Kind}
 use Rattle.image.specs.Elements.{is_filemark, kind_at}
-use Rattle.index.specs.declared.checking.Compared.{Compared}
-use Rattle.index.specs.declared.checking.Compared.TheVariants.{Differs, Same}
 use Rattle.index.specs.Checking.{holds_entries, compared_at, compared_with, are_blank}
 use Rattle.index.specs.Entries.{marks_from, no_filemark, entry_bytes}
 use Rattle.index.specs.Rewriting.{entries_put}
@@ -114,10 +112,6 @@ pub put_place : (mark : Bool) (index ps : List ℕ) (n p : ℕ) → 4 * n + 4 �
 put_place true index ps n p l = put_more index ps n p l
 put_place false index ps n p l = refl
 
-put_keeps : (mark : Bool) (index : List ℕ) (n p : ℕ) → length (if mark then put_count index (4 * n) 4 p else index) ≡ length index
-put_keeps true index n p = length_put_count index (4 * n) 4 p
-put_keeps false index n p = refl
-
 next_count : (mark : Bool) (ps : List ℕ) (n p : ℕ) → (if mark then n + 1 else n) + length ps ≡ n + length (with_place mark p ps)
 next_count true ps n p = omega arith
 next_count false ps n p = refl
@@ -141,32 +135,28 @@ module _ (s : List ℕ) (kinds end at : ℕ) where
       rw (z, marks_first, ← e, ← q) refl
 
 -- filemarks put as far as place `at`, up to entry n: X are the bytes in the end, N is the entry after the last
-pub record Putting (s : List ℕ) (kinds end : ℕ) (X : List ℕ) (N : ℕ) (size : ℕ) (index : List ℕ) (at n : ℕ) : Type 0 where
-  pub within : at ≤ end
+pub record Putting (s : List ℕ) (kinds end : ℕ) (X : List ℕ) (N : ℕ) (index : List ℕ) (at n : ℕ) : Type 0 where
   pub few : n ≤ at
-  pub kept : length index ≡ size
   pub bytes : over index (4 * n) (entry_bytes (ahead s kinds end at)) ≡ X
   pub count : n + length (ahead s kinds end at) ≡ N
 
-module _ (s : List ℕ) (kinds end : ℕ) (X : List ℕ) (N size : ℕ) where
-  pub put_next : (index new : List ℕ) (at n next : ℕ) (kind : Kind) (mark : Bool) → Putting s kinds end X N size index at n → at < end
-      → 4 * end ≤ size → kind ≡ kind_at s kinds at → mark ≡ is_filemark kind
+module _ (s : List ℕ) (kinds end : ℕ) (X : List ℕ) (N : ℕ) where
+  pub put_next : (index new : List ℕ) (at n next : ℕ) (kind : Kind) (mark : Bool) → Putting s kinds end X N index at n → at < end
+      → 4 * end ≤ length index → kind ≡ kind_at s kinds at → mark ≡ is_filemark kind
       → next ≡ (if mark then n + 1 else n) → new ≡ (if mark then put_count index (4 * n) 4 at else index)
-      → Putting s kinds end X N size new (at + 1) next
+      → Putting s kinds end X N new (at + 1) next
   put_next index new at n next kind mark g l h e q a b =
       let f = ahead_first s kinds end at kind mark l e q in
       record {
-        within = omega arith;
         few = rw a (next_few mark n at g.few);
-        kept = rw b (put_keeps mark index n at) ∙ g.kept;
         bytes =
             rw (a, b)
-            (put_place mark index (ahead s kinds end (at + 1)) n at (omega (arith, g.few, g.kept))
+            (put_place mark index (ahead s kinds end (at + 1)) n at (omega (arith, g.few))
             ∙ ap (λ (ps : List ℕ). over index (4 * n) (entry_bytes ps)) (sym f) ∙ g.bytes);
         count = rw a (next_count mark (ahead s kinds end (at + 1)) n at) ∙ ap (λ (ps : List ℕ). n + length ps) (sym f) ∙ g.count;
       }
 
-  pub put_done : (index : List ℕ) (at n : ℕ) → Putting s kinds end X N size index at n → end ≤ at → (n ≡ N) × (index ≡ X)
+  pub put_done : (index : List ℕ) (at n : ℕ) → Putting s kinds end X N index at n → end ≤ at → (n ≡ N) × (index ≡ X)
   put_done index at n g l =
       let z = ahead_none s kinds end at l in (
         omega (arith, (rw z at g.count)),
@@ -182,23 +172,15 @@ blanks_none : (n last : ℕ) → last ≤ n → replicate (last - n) no_filemark
 blanks_none n last l = let z : last - n ≡ 0 = omega arith in rw z refl
 
 -- entries blanked up to entry n: X are the bytes in the end
-pub record Blanking (last : ℕ) (X : List ℕ) (size : ℕ) (index : List ℕ) (n : ℕ) : Type 0 where
-  pub kept : length index ≡ size
-  pub bytes : over index (4 * n) (entry_bytes (replicate (last - n) no_filemark)) ≡ X
+pub blank_next : (last : ℕ) (X index new : List ℕ) (n : ℕ) → over index (4 * n) (entry_bytes (replicate (last - n) no_filemark)) ≡ X → n < last
+    → 4 * last ≤ length index → new ≡ put_count index (4 * n) 4 no_filemark
+    → over new (4 * (n + 1)) (entry_bytes (replicate (last - (n + 1)) no_filemark)) ≡ X
+blank_next last X index new n g l h e =
+    rw e (put_more index (replicate (last - (n + 1)) no_filemark) n no_filemark (omega arith))
+    ∙ ap (λ (ps : List ℕ). over index (4 * n) (entry_bytes ps)) (sym (blanks_first n last l)) ∙ g
 
-module _ (last : ℕ) (X : List ℕ) (size : ℕ) where
-  pub blank_next : (index new : List ℕ) (n : ℕ) → Blanking last X size index n → n < last → 4 * last ≤ size
-      → new ≡ put_count index (4 * n) 4 no_filemark → Blanking last X size new (n + 1)
-  blank_next index new n g l h e =
-      record {
-        kept = rw e (length_put_count index (4 * n) 4 no_filemark) ∙ g.kept;
-        bytes =
-            rw e (put_more index (replicate (last - (n + 1)) no_filemark) n no_filemark (omega (arith, g.kept)))
-            ∙ ap (λ (ps : List ℕ). over index (4 * n) (entry_bytes ps)) (sym (blanks_first n last l)) ∙ g.bytes;
-      }
-
-  pub blank_done : (index : List ℕ) (n : ℕ) → Blanking last X size index n → last ≤ n → index ≡ X
-  blank_done index n g l = sym (over_none index (4 * n)) ∙ rw (blanks_none n last l) at g.bytes
+pub blank_done : (last : ℕ) (X index : List ℕ) (n : ℕ) → over index (4 * n) (entry_bytes (replicate (last - n) no_filemark)) ≡ X → last ≤ n → index ≡ X
+blank_done last X index n g l = sym (over_none index (4 * n)) ∙ rw (blanks_none n last l) at g
 
 -- the filemarks, and then the blanks
 pub put_both : (index mid new marks : List ℕ) (first last n : ℕ) → 4 * n ≤ length index → n ≡ first + length marks
@@ -239,103 +221,73 @@ holds_append index (p ∷ ps) qs n =
     rw (holds_first, holds_first, holds_append index ps qs (n + 1), z) (and_assoc (eqb (entry_at index n) p) _ _)
 
 -- what a choice of the two was
-pub differs_by : (b : Bool) (n : ℕ) → (if b then Same n else Differs) ≡ Differs → b ≡ false
+pub differs_by : (b : Bool) (n : ℕ) → (if b then Some n else None) ≡ None → b ≡ false
 differs_by true n e = (cc)
 differs_by false n e = refl
 
-pub same_by : (b : Bool) (m n : ℕ) → (if b then Same m else Differs) ≡ Same n → (b ≡ true) × (n ≡ m)
+pub same_by : (b : Bool) (m n : ℕ) → (if b then Some m else None) ≡ Some n → (b ≡ true) × (n ≡ m)
 same_by true m n e = (refl, (cc))
 same_by false m n e = ((cc), (cc))
 
--- place p agrees with entry n, and the rest is compared with those after it
-place_holds : (mark : Bool) (index ps : List ℕ) (n p next : ℕ) → compared_at mark index n p ≡ Same next
-    → (next ≡ (if mark then n + 1 else n)) × (holds_entries index next ps ≡ holds_entries index n (with_place mark p ps))
-unfolding compared_at
-place_holds false index ps n p next e = let z : next ≡ n = (same_by true n next e).1 in (z, rw z refl)
-place_holds true index ps n p next e =
-    let z = same_by (eqb (entry_at index n) p) (n + 1) next e in
-    (z.1, rw (z.1, holds_first, z.0) refl)
+-- what comparing these filemarks with the entries from entry n on comes to
+abbrev pub compared_on : List ℕ → ℕ → List ℕ → Option ℕ
+compared_on index n ps = if holds_entries index n ps then Some (n + length ps) else None
 
-place_differs : (mark : Bool) (index ps : List ℕ) (n p : ℕ) → compared_at mark index n p ≡ Differs → holds_entries index n (with_place mark p ps) ≡ false
+-- place p agrees with entry n, and the rest is compared with those after it
+place_next : (mark : Bool) (index ps : List ℕ) (n p next : ℕ) → compared_at mark index n p ≡ Some next
+    → (next ≡ (if mark then n + 1 else n)) × (compared_on index next ps ≡ compared_on index n (with_place mark p ps))
+unfolding compared_at
+place_next false index ps n p next e = let z : next ≡ n = (same_by true n next e).1 in (z, rw z refl)
+place_next true index ps n p next e =
+    let z = same_by (eqb (entry_at index n) p) (n + 1) next e in
+    let y : n + 1 + length ps ≡ n + suc (length ps) = omega arith in
+    (z.1, rw (z.1, holds_first, z.0, y) refl)
+
+place_differs : (mark : Bool) (index ps : List ℕ) (n p : ℕ) → compared_at mark index n p ≡ None → compared_on index n (with_place mark p ps) ≡ None
 unfolding compared_at
 place_differs false index ps n p e = absurd (true≢false (differs_by true n e))
 place_differs true index ps n p e = rw (holds_first, differs_by (eqb (entry_at index n) p) (n + 1) e) refl
 
--- filemarks compared as far as place `at`, up to entry n: H tells whether all agree, N is how many they are
-pub record Comparing (s : List ℕ) (kinds end : ℕ) (index : List ℕ) (H : Bool) (N at n : ℕ) : Type 0 where
-  pub within : at ≤ end
+-- filemarks compared as far as place `at`, up to entry n: R is what comparing them all comes to
+pub record Comparing (s : List ℕ) (kinds end : ℕ) (index : List ℕ) (R : Option ℕ) (at n : ℕ) : Type 0 where
   pub few : n ≤ at
-  pub holds : holds_entries index n (ahead s kinds end at) ≡ H
-  pub count : n + length (ahead s kinds end at) ≡ N
+  pub rest : compared_on index n (ahead s kinds end at) ≡ R
 
 module _ (s : List ℕ) (kinds end : ℕ) (index : List ℕ) where
-  pub compare_start : Comparing s kinds end index (holds_entries index 0 (marks_from s kinds end 0)) (length (marks_from s kinds end 0)) 0 0
+  pub compare_start : Comparing s kinds end index (compared_with index (marks_from s kinds end 0)) 0 0
+  unfolding compared_with
   compare_start =
       let z : end - 0 ≡ end = omega arith in
-      record { within = omega arith; few = omega arith; holds = rw z refl; count = rw z (omega arith) }
+      let y : 0 + length (marks_from s kinds end 0) ≡ length (marks_from s kinds end 0) = omega arith in
+      record { few = omega arith; rest = rw (z, y) refl }
 
-  module _ (H : Bool) (N at n : ℕ) (kind : Kind) (mark : Bool) (x : Compared) (g : Comparing s kinds end index H N at n) (l : at < end)
-      (e : kind ≡ kind_at s kinds at) (q : mark ≡ is_filemark kind) (c : x ≡ compared_at mark index n at) where
-    pub compare-next : (next : ℕ) → x ≡ Same next → Comparing s kinds end index H N (at + 1) next
-    compare-next next d =
-        let f = ahead_first s kinds end at kind mark l e q in
-        let z = place_holds mark index (ahead s kinds end (at + 1)) n at next (sym c ∙ d) in
+  module _ (R : Option ℕ) (at n : ℕ) (kind : Kind) (mark : Bool) (g : Comparing s kinds end index R at n) (l : at < end)
+      (e : kind ≡ kind_at s kinds at) (q : mark ≡ is_filemark kind) (x : Option ℕ) (c : x ≡ compared_at mark index n at) where
+    pub compare_next : (next : ℕ) → x ≡ Some next → Comparing s kinds end index R (at + 1) next
+    compare_next next d =
+        let z = place_next mark index (ahead s kinds end (at + 1)) n at next (sym c ∙ d) in
         record {
-          within = omega arith;
           few = rw z.0 (next_few mark n at g.few);
-          holds = z.1 ∙ ap (λ (ps : List ℕ). holds_entries index n ps) (sym f) ∙ g.holds;
-          count = rw z.0 (next_count mark (ahead s kinds end (at + 1)) n at) ∙ ap (λ (ps : List ℕ). n + length ps) (sym f) ∙ g.count;
+          rest = z.1 ∙ ap (λ (ps : List ℕ). compared_on index n ps) (sym (ahead_first s kinds end at kind mark l e q)) ∙ g.rest;
         }
 
-    pub compare-differs : x ≡ Differs → H ≡ false
-    compare-differs d =
-        sym g.holds ∙ ap (λ (ps : List ℕ). holds_entries index n ps) (ahead_first s kinds end at kind mark l e q)
-        ∙ place_differs mark index (ahead s kinds end (at + 1)) n at (sym c ∙ d)
+    pub compare_differs : x ≡ None → None ≡ R
+    compare_differs d =
+        sym (place_differs mark index (ahead s kinds end (at + 1)) n at (sym c ∙ d))
+        ∙ ap (λ (ps : List ℕ). compared_on index n ps) (sym (ahead_first s kinds end at kind mark l e q)) ∙ g.rest
 
-  pub compare_done : (H : Bool) (N at n : ℕ) → Comparing s kinds end index H N at n → end ≤ at → (H ≡ true) × (n ≡ N)
-  compare_done H N at n g l =
-      let z = ahead_none s kinds end at l in (
-        sym (rw z at g.holds) ∙ holds_none index n,
-        omega (arith, (rw z at g.count)),
-      )
+  pub compare_done : (R : Option ℕ) (at n : ℕ) → Comparing s kinds end index R at n → end ≤ at → Some n ≡ R
+  compare_done R at n g l =
+      let z : n + 0 ≡ n = omega arith in
+      let e : compared_on index n [] ≡ R = rw (ahead_none s kinds end at l) at g.rest in
+      rw (← z) (rw (holds_none index n) at e)
 
--- how the comparison ends
-pub compared_differs : (index marks : List ℕ) (r : Compared) → holds_entries index 0 marks ≡ false → r ≡ Differs → r ≡ compared_with index marks
-unfolding compared_with
-compared_differs index marks r h e = rw (h, e) refl
-
-pub compared_same : (index marks : List ℕ) (n : ℕ) (r : Compared) → holds_entries index 0 marks ≡ true → n ≡ length marks → r ≡ Same n
-    → r ≡ compared_with index marks
-unfolding compared_with
-compared_same index marks n r h q e = rw (h, e, q) refl
+pub ruleset compare_ways = (compare_start, compare_next, compare_differs, compare_done)
 
 -- ---- bytes that are FFh
 
 blank_first : (s : List ℕ) (p k : ℕ) → p < length s → are_blank (part s p (suc k)) ≡ (eqb (get_or s p 0) 255 && are_blank (part s (p + 1) k))
-unfolding are_blank
 blank_first s p k l = rw (part_first s p k l) refl
-
--- the bytes from place `at` to the end, and what was found before them: H tells of all
-pub record Bytewise (index : List ℕ) (end : ℕ) (H : Bool) (at : ℕ) (blank : Bool) : Type 0 where
-  pub holds : (blank && are_blank (part index at (end - at))) ≡ H
-
-module _ (index : List ℕ) (end : ℕ) (H : Bool) where
-  pub byte_next : (at : ℕ) (blank : Bool) → Bytewise index end H at blank → at < end → end ≤ length index
-      → Bytewise index end H (at + 1) (blank && eqb (get_or index at 0) 255)
-  byte_next at blank g l m =
-      let z : end - at ≡ suc (end - (at + 1)) = omega arith in
-      let e = ap (λ (k : ℕ). are_blank (part index at k)) z ∙ blank_first index at (end - (at + 1)) (omega arith) in
-      record {
-        holds =
-            sym (and_assoc blank (eqb (get_or index at 0) 255) (are_blank (part index (at + 1) (end - (at + 1)))))
-            ∙ ap (λ (b : Bool). blank && b) (sym e) ∙ g.holds;
-      }
-
-  pub byte_done : (at : ℕ) (blank : Bool) → Bytewise index end H at blank → end ≤ at → blank ≡ H
-  unfolding are_blank
-  byte_done at blank g l =
-      let z : end - at ≡ 0 = omega arith in
-      and_true blank ∙ rw z at g.holds
 
 -- four bytes FFh are the entry that tells of no filemark
 four_blank : (a b c d : ℕ) (r : Bool) → a < 256 → b < 256 → c < 256 → d < 256
@@ -359,7 +311,6 @@ four_blank a b c d r ha hb hc hd =
 -- so many entries that tell of none are bytes FFh
 pub blank_entries : (index : List ℕ) (n k : ℕ) → ((i : ℕ) → get_or index i 0 < 256) → (0 < k → 4 * n + 4 * k ≤ length index)
     → are_blank (part index (4 * n) (4 * k)) ≡ holds_entries index n (replicate k no_filemark)
-unfolding are_blank
 blank_entries index n zero b l = sym (holds_none index n)
 blank_entries index n (suc k) b f =
     let l = f (omega arith) in

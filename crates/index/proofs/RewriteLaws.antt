@@ -1,5 +1,6 @@
 -- Entries rewritten from the old position on give the index made afresh.
 -- Assumes nothing.
+use Rattle.std.specs.Prelude.{Some}
 use mathlib.Core.Path.{◌≡◌, refl, sym, ap, ◌∙◌}
 use mathlib.Core.Bool.{true}
 use mathlib.Core.List.{List, ◌++◌, append_assoc}
@@ -11,7 +12,6 @@ use lib.Seq.{drop-append-add, drop_at}
 use Rattle.numbers.specs.Over.{over}
 use Rattle.numbers.proofs.OverLaws.{over_after}
 use Rattle.image.specs.declared.header.Header.{Header}
-use Rattle.image.specs.declared.header.Judged.TheVariants.{Good}
 use Rattle.image.specs.Elements.{kind_at}
 use Rattle.image.specs.Header.{header_of, with_recorded}
 use Rattle.image.proofs.HeaderLaws.{sound}
@@ -72,7 +72,7 @@ new_entries new old k l =
 -- ---- after a store
 
 module _ (s t : List ℕ) (h : Header) (p end : ℕ) (index : List ℕ)
-    (good : header_of s ≡ Good h) (left : header_of t ≡ Good (with_recorded h end)) (fresh : is_fresh s index ≡ true)
+    (good : header_of s ≡ Some h) (left : header_of t ≡ Some (with_recorded h end)) (fresh : is_fresh s index ≡ true)
     (place : p ≤ h.recorded) (reached : p ≤ end) (below : (i : ℕ) → i < p → kind_at t h.kinds i ≡ kind_at s h.kinds i) where
   abbrev before : List ℕ
   before = marks_from s h.kinds p 0

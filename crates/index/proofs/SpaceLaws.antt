@@ -1,6 +1,6 @@
 -- SPACE over filemarks by a list of their places, and by entries.
 -- Assumes nothing.
-use Rattle.std.specs.Prelude.{if◌then◌else◌}
+use Rattle.std.specs.Prelude.{Some, if◌then◌else◌}
 use mathlib.Core.Path.{◌≡◌, refl, sym, ap, ◌∙◌}
 use mathlib.Core.Bool.{Bool, true, false}
 use mathlib.Core.List.{List, [], ◌∷◌, ◌++◌, append-nil}
@@ -14,7 +14,6 @@ use lib.ListN.{length, get_or, length-append, get_or-append}
 use lib.Seq.{get_or-append_seam}
 use Rattle.numbers.proofs.Cases.{test}
 use Rattle.image.specs.declared.header.Header.{Header}
-use Rattle.image.specs.declared.header.Judged.TheVariants.{Good}
 use Rattle.image.specs.Elements.{is_filemark, kind_at}
 use Rattle.image.specs.Header.{header_of}
 use Rattle.transfer.specs.declared.Moved.{Moved}
@@ -207,7 +206,7 @@ module _ (s : List ℕ) (kinds c u p : ℕ) (index : List ℕ) (k : ℕ) (rest :
       back_beyond index (length before) (suc l) p _ (λ x. omega arith) m (back_short s kinds p l m))
 
 -- "SPACE over filemarks through the index gives the same answer, sense and position as without it."
-pub run_is : (s : List ℕ) (h : Header) (p : ℕ) (index : List ℕ) (count : ℕ) → header_of s ≡ Good h → is_fresh s index ≡ true → p ≤ h.recorded
+pub run_is : (s : List ℕ) (h : Header) (p : ℕ) (index : List ℕ) (count : ℕ) → header_of s ≡ Some h → is_fresh s index ≡ true → p ≤ h.recorded
     → run_by_entries index h p count ≡ space_run s h p over_filemarks count
 unfolding run_by_entries space_run
 run_is s h p index count good fresh l =

@@ -1,15 +1,16 @@
 -- 02, A4: what the two calls leave: an index made, and a packet of the stream device beside an index.
 -- Assumes nothing.
-use Rattle.std.specs.Prelude.{ℕ, ◌*◌, ◌≤◌, true, not, List, ◌≡◌, length, if◌then◌else◌}
+use Rattle.std.specs.Prelude.{ℕ, ◌*◌, ◌≤◌, true, not, List, ◌≡◌, length, if◌then◌else◌, Result, Some}
 use Rattle.numbers.specs.Choice.{◌≡ᵇ◌, ◌<ᵇ◌}
+use Rattle.numbers.specs.declared.refusals.Refusal.{Refusal}
 use Rattle.image.specs.declared.header.Header.{Header}
-use Rattle.image.specs.declared.header.Judged.TheVariants.{Good as GoodHeader}
 use Rattle.image.specs.Header.{fields_of, header_of, keeps_header_rules, broken_image}
-use Rattle.packet_state.specs.declared.state.Answer.{Answer}
+use Rattle.packet_state.specs.Answers.{Answer, answer_of, refusal}
 use Rattle.packet_state.specs.declared.state.Outcome.{Outcome}
 use Rattle.packet_state.specs.declared.state.State.{State}
+use Rattle.packet_state.specs.declared.state.Told.{Told}
 use Rattle.packet_state.specs.States.{keeps_record_rules}
-use Rattle.packet_parts.specs.Answers.{Left, done, refusal, answered, good_status, not_twelve_bytes, unruly_record}
+use Rattle.packet_parts.specs.Answers.{Left, left, answered, good_status, not_twelve_bytes, unruly_record}
 use Rattle.packet_parts.specs.Requests.{packet_length}
 use Rattle.packet_parts.specs.Shell.{refuses}
 use Rattle.stream.specs.Packet.{packet_step}
@@ -57,7 +58,7 @@ afresh index x = indexed x (fresh_index x.image index)
 -- what a packet has passed when nothing of 1, 2, 3, 9 and 10 refuses it
 pub record Beside (s : List ℕ) (h : Header) (index : List ℕ) (st : State) (packet : List ℕ) : Type 0 where
   pub twelve : length packet ≡ packet_length
-  pub header : header_of s ≡ GoodHeader h
+  pub header : header_of s ≡ Some h
   pub ruly : keeps_record_rules h.recorded st ≡ true
   pub room : 4 * h.capacity ≤ length index
   pub fresh : is_fresh s index ≡ true
@@ -75,9 +76,9 @@ indexed_step s index st packet buf =
 -- ---- the promises of the public calls
 
 -- the answer, and the index buffer at the end
-abbrev pub MakePromise : List ℕ → List ℕ → Answer → List ℕ → Type 0
-MakePromise s index r index' = made r index' ≡ makes s index
+abbrev pub MakePromise : List ℕ → List ℕ → Result Told Refusal → List ℕ → Type 0
+MakePromise s index r index' = made (answer_of r) index' ≡ makes s index
 
 -- the outcome, and image, index and data buffer at the end
-abbrev pub IndexedPromise : List ℕ → List ℕ → State → List ℕ → List ℕ → Outcome → List ℕ → List ℕ → List ℕ → Type 0
-IndexedPromise s index st packet buf r image' index' buf' = indexed (done r image' buf') index' ≡ indexed_step s index st packet buf
+abbrev pub IndexedPromise : List ℕ → List ℕ → State → List ℕ → List ℕ → Result (Outcome State) Refusal → List ℕ → List ℕ → List ℕ → Type 0
+IndexedPromise s index st packet buf r image' index' buf' = indexed (left st r image' buf') index' ≡ indexed_step s index st packet buf

@@ -1,7 +1,7 @@
 // The packets for which the entries answer, and those that store.
 ghost use Rattle.std.specs.Prelude.{◌≡◌};
 ghost use Rattle.stream_laws.specs.Words.{stores_on};
-ghost use Rattle.index.specs.Commands.{is_space, is_work, by_entries};
+ghost use Rattle.index.specs.Commands.{by_entries};
 
 use opcodes::Command;
 use packet_parts::requests::Request;
@@ -11,60 +11,11 @@ use stream_parts::requests::OVER_FILEMARKS;
 pub fn stores_on(command: Command) -> bool
     ensures { result ≡ stores_on command }
 {
-    match command {
-        Command::Unknown => false,
-        Command::TestUnitReady => false,
-        Command::Rewind => false,
-        Command::RequestSense => false,
-        Command::Read => false,
-        Command::Write => true,
-        Command::WriteFilemarks => true,
-        Command::Space => false,
-        Command::Inquiry => false,
-        Command::ModeSelect => false,
-        Command::ModeSense => false,
-        Command::LoadUnload => false,
-        Command::Locate => false,
-        Command::ReadPosition => false,
-        Command::PreventAllow => false,
-    }
-}
-
-fn is_space(command: Command) -> bool
-    ensures { result ≡ is_space command }
-{
-    match command {
-        Command::Unknown => false,
-        Command::TestUnitReady => false,
-        Command::Rewind => false,
-        Command::RequestSense => false,
-        Command::Read => false,
-        Command::Write => false,
-        Command::WriteFilemarks => false,
-        Command::Space => true,
-        Command::Inquiry => false,
-        Command::ModeSelect => false,
-        Command::ModeSense => false,
-        Command::LoadUnload => false,
-        Command::Locate => false,
-        Command::ReadPosition => false,
-        Command::PreventAllow => false,
-    }
-}
-
-fn is_work(found: Verdict) -> bool
-    ensures { result ≡ is_work found }
-{
-    match found {
-        Verdict::Refuses(_) => false,
-        Verdict::Ends(_) => false,
-        Verdict::Works => true,
-    }
+    matches!(command, Command::Write | Command::WriteFilemarks)
 }
 
 pub fn by_entries(found: Verdict, q: Request) -> bool
     ensures { result ≡ by_entries found q }
 {
-    let command = q.command;
-    is_work(found) & is_space(command) & (q.flags % 8 == OVER_FILEMARKS)
+    matches!(found, Verdict::Works) && q.command == Command::Space && q.flags % 8 == OVER_FILEMARKS
 }

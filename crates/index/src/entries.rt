@@ -6,7 +6,7 @@ ghost use Rattle.index.specs.Entries.{marks_from, no_filemark, entry_bytes};
 ghost use Rattle.index.specs.Spacing.{entry_at, BelowFirst, AllBelow, entries_below};
 ghost use Rattle.index.specs.Rewriting.{entries_put};
 
-use image::elements::{is_filemark, kind_at};
+use image::header::Header;
 use numbers::counts::{count4, put_count4};
 
 const NO_FILEMARK: u32 = 0xffffffff;
@@ -18,7 +18,7 @@ pub fn entry_at(index: &[u8], j: u32) -> u32
     count4(index, 4 * j as usize)
 }
 
-// How many of the first n entries are below place p, by halving.
+// How many of the first n entries are below place p, by halving: big-endian bytes in a lent buffer are no slice of numbers for `partition_point`.
 pub fn entries_below(index: &[u8], p: u32, n: u32) -> u32
     requires n_in_bounds { 4 * n ≤ length index.now }
     requires below_first { BelowFirst index.now p n }
@@ -53,19 +53,16 @@ fn put_entry(index: &mut [u8], n: u32, p: u32, mark: bool) -> u32
 }
 
 // The filemarks from place p to the end become the entries from `first` on; the answer is the entry after the last.
-fn put_marks(image: &[u8], kinds: u32, p: u32, end: u32, index: &mut [u8], first: u32) -> u32
-    requires p_le_end { (p ≤ end) × (kinds + end ≤ length image.now) }
+fn put_marks(image: &[u8], h: Header, p: u32, end: u32, index: &mut [u8], first: u32) -> u32
+    requires p_le_end { (p ≤ end) × (h.kinds + end ≤ length image.now) }
     requires first_le_p { (first ≤ p) × (end ≤ 65535) × (4 * end ≤ length index.old) }
-    ensures value { result ≡ first + length (marks_from image.now kinds (end - p) p) }
+    ensures value { result ≡ first + length (marks_from image.now h.kinds (end - p) p) }
     ensures upper_bound { result ≤ end }
-    ensures index_after { index.new ≡ over index.old (4 * first) (entry_bytes (marks_from image.now kinds (end - p) p)) }
+    ensures index_after { index.new ≡ over index.old (4 * first) (entry_bytes (marks_from image.now h.kinds (end - p) p)) }
 {
-    let mut at = p;
     let mut n = first;
-    while at < end {
-        let mark = is_filemark(kind_at(image, kinds, at));
-        n = put_entry(index, n, at, mark);
-        at = at + 1;
+    for at in p..end {
+        n = put_entry(index, n, at, h.kind_at(image, at).is_filemark());
     }
     n
 }
@@ -75,30 +72,28 @@ fn put_blanks(index: &mut [u8], first: u32, last: u32)
     requires { (4 * last ≤ length index.old) × (last ≤ 65535) }
     ensures { index.new ≡ over index.old (4 * first) (entry_bytes (replicate (last - first) no_filemark)) }
 {
-    let mut n = first;
-    while n < last {
+    for n in first..last {
         put_count4(index, 4 * n as usize, NO_FILEMARK);
-        n = n + 1;
     }
 }
 
 // The filemarks from place p to the end become the entries from `first` on, and those after them, before `last`, FFh.
 pub fn write_entries(
     image: &[u8],
-    kinds: u32,
+    h: Header,
     p: u32,
     end: u32,
     index: &mut [u8],
     first: u32,
     last: u32,
 ) -> u32
-    requires p_le_end { (p ≤ end) × (kinds + end ≤ length image.now) }
+    requires p_le_end { (p ≤ end) × (h.kinds + end ≤ length image.now) }
     requires first_le_p { (first ≤ p) × (end ≤ 65535) × (4 * end ≤ length index.old) }
     requires last_bound { (last ≤ 65535) × (4 * last ≤ length index.old) }
-    ensures value { result ≡ first + length (marks_from image.now kinds (end - p) p) }
-    ensures index_after { index.new ≡ entries_put index.old first last (marks_from image.now kinds (end - p) p) }
+    ensures value { result ≡ first + length (marks_from image.now h.kinds (end - p) p) }
+    ensures index_after { index.new ≡ entries_put index.old first last (marks_from image.now h.kinds (end - p) p) }
 {
-    let next = put_marks(image, kinds, p, end, index, first);
+    let next = put_marks(image, h, p, end, index, first);
     put_blanks(index, next, last);
     next
 }

@@ -1,6 +1,6 @@
 // A packet beside an index that is fresh: the index is fresh again after it.
 ghost use Rattle.std.specs.Prelude.{◌≡◌, ◌+◌, ◌*◌, ◌<◌, ◌≤◌, length};
-ghost use Rattle.packet_parts.specs.Answers.{done};
+ghost use Rattle.packet_parts.specs.Answers.{left};
 ghost use Rattle.stream.specs.Packet.{packet_step};
 ghost use Rattle.index.specs.Spacing.{BelowFirst, entries_below};
 ghost use Rattle.index.specs.Rewriting.{rewritten};
@@ -10,6 +10,7 @@ use crate::commands::{by_entries, stores_on};
 use crate::entries::{entries_below, write_entries};
 use crate::spacing::run_by_entries;
 use image::header::Header;
+use numbers::refusals::Refusal;
 use packet_state::state::{Outcome, State};
 use stream::work::end_space;
 use stream_parts::checks::verdict;
@@ -28,9 +29,10 @@ fn rewrite(image: &[u8], h: Header, index: &mut [u8], p: u32, end: u32)
     let c = h.capacity;
     let first = entries_below(index, p, c);
     let last = entries_below(index, h.recorded, c);
-    write_entries(image, h.kinds, p, end, index, first, last);
+    write_entries(image, h, p, end, index, first, last);
 }
 
+#[tactic(auto, using(crate::proofs::KeepLaws::refused))]
 pub fn keep(
     image: &mut [u8],
     h: Header,
@@ -38,24 +40,19 @@ pub fn keep(
     state: State,
     packet: &[u8],
     buf: &mut [u8],
-) -> Outcome
+) -> Result<Outcome<State>, Refusal>
     requires { Beside image.old h index.old state packet.now }
-    ensures { indexed (done result image.new buf.new) index.new
+    ensures { indexed (left state result image.new buf.new) index.new
         ≡ afresh index.old (packet_step image.old state packet.now buf.old) }
 {
     let q = request_of(packet);
     let p = state.position;
-    let answered = by_entries(verdict(h, state, q, buf.len()), q);
-    if answered {
-        return end_space(h, state, run_by_entries(index, h, p, q.count));
+    if by_entries(verdict(h, state, q, buf.len()), q) {
+        return Ok(end_space(h, state, run_by_entries(index, h, p, q.count)));
     }
-    let outcome = stream::packet(image, state, packet, buf);
-    let told = outcome.answer;
-    let after = outcome.state;
-    let command = q.command;
-    let stored = stores_on(command) & (1 <= told.blocks);
-    if stored {
-        rewrite(image, h, index, p, after.position);
+    let outcome = stream::packet(image, state, packet, buf)?;
+    if stores_on(q.command) & (1 <= outcome.answer.blocks) {
+        rewrite(image, h, index, p, outcome.state.position);
     }
-    outcome
+    Ok(outcome)
 }

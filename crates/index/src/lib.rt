@@ -12,69 +12,45 @@ ghost use Rattle.index.specs.Keeping.{MakePromise, IndexedPromise};
 use crate::checking::{is_fresh, is_short};
 use crate::entries::write_entries;
 use crate::keeping::keep;
-use image::header::{Judged, header_of};
-use packet_parts::answers::{answer_of, refusal_of, refuse};
-use packet_state::rules::keeps_record_rules;
-use packet_state::state::{Answer, Outcome, State};
-
-const PACKET_LENGTH: usize = 12;
-
-const NOT_TWELVE_BYTES: u8 = 1;
-
-const BROKEN_IMAGE: u8 = 2;
-
-const UNRULY_RECORD: u8 = 3;
-
-const SHORT_INDEX: u8 = 9;
-
-const STALE_INDEX: u8 = 10;
-
-const GOOD: u8 = 0;
+use image::header::header_of;
+use numbers::refusals::Refusal;
+use packet_parts::answers::{GOOD, told};
+use packet_parts::shell::begin;
+use packet_state::state::{Outcome, State, Told};
+use stream::StreamDevice;
 
 // The index made afresh.
-pub fn make(image: &[u8], index: &mut [u8]) -> Answer
+#[tactic(auto, using(crate::proofs::CallLaws::make_ways))]
+pub fn make(image: &[u8], index: &mut [u8]) -> Result<Told, Refusal>
     ensures { MakePromise image.now index.old result index.new }
 {
-    let Judged::Good(h) = header_of(image) else {
-        return refusal_of(BROKEN_IMAGE);
-    };
+    let h = header_of(image).ok_or(Refusal::BrokenImage)?;
     let c = h.capacity;
-    let short = is_short(index, c);
-    if short {
-        return refusal_of(SHORT_INDEX);
+    if is_short(index, c) {
+        return Err(Refusal::ShortIndex);
     }
-    let filemarks = write_entries(image, h.kinds, 0, h.recorded, index, 0, c);
-    answer_of(GOOD, filemarks, 4 * c)
+    let filemarks = write_entries(image, h, 0, h.recorded, index, 0, c);
+    Ok(told(GOOD, filemarks, 4 * c))
 }
 
 // "in that order after 3": 1, 2, 3, 9, 10, then as without the index.
+#[tactic(auto, using(crate::proofs::CallLaws::packet_ways))]
 pub fn packet(
     image: &mut [u8],
     index: &mut [u8],
     state: State,
     packet: &[u8],
     buf: &mut [u8],
-) -> Outcome
+) -> Result<Outcome<State>, Refusal>
     ensures { IndexedPromise image.old index.old state packet.now buf.old
         result image.new index.new buf.new }
 {
-    if packet.len() != PACKET_LENGTH {
-        return refuse(state, NOT_TWELVE_BYTES);
+    let h = begin::<StreamDevice>(image, state, packet)?;
+    if is_short(index, h.capacity) {
+        return Err(Refusal::ShortIndex);
     }
-    let Judged::Good(h) = header_of(image) else {
-        return refuse(state, BROKEN_IMAGE);
-    };
-    let sound = keeps_record_rules(h.recorded, state);
-    if sound {
-        let short = is_short(index, h.capacity);
-        if short {
-            return refuse(state, SHORT_INDEX);
-        }
-        let fresh = is_fresh(image, h, index);
-        if fresh {
-            return keep(image, h, index, state, packet, buf);
-        }
-        return refuse(state, STALE_INDEX);
+    if is_fresh(image, h, index) {
+        return keep(image, h, index, state, packet, buf);
     }
-    refuse(state, UNRULY_RECORD)
+    Err(Refusal::StaleIndex)
 }

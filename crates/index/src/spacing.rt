@@ -47,8 +47,7 @@ pub fn run_by_entries(index: &[u8], h: Header, p: u32, count: u32) -> Moved
     let end = h.recorded;
     let n = magnitude_of(count);
     let before = entries_below(index, p, c);
-    let back = is_back(count);
-    if back {
+    if is_back(count) {
         return back_by_entries(index, before, n, p);
     }
     let all = entries_below(index, end, c);

@@ -22,15 +22,15 @@ run_by_entries-requires c =
 pub end_space-requires : goal.end_space-requires
 end_space-requires c = let g = sound _ _ c.requires.header in omega arith
 
-pub returns-then-answered : goal.returns-then-answered
-returns-then-answered c =
+pub returns-then-by_entries : goal.returns-then-by_entries
+returns-then-by_entries c =
     by_index _ _ _ _ _ _ c.requires _ _ _ _ _ c.request_of-q.ensures.0 c.verdict.ensures
-    c.by_entries-answered.ensures c.if-answered.true c.run_by_entries.ensures c.end_space.ensures
+    c.by_entries.ensures c.if-by_entries.true c.run_by_entries.ensures c.end_space.ensures
 
 pub rewrite-requires : goal.rewrite-requires
 rewrite-requires c =
     let b = c.requires in
-    let z = stored _ _ _ _ _ _ b _ _ _ _ _ c.request_of-q.ensures.0 c.packet-outcome.ensures c.stores_on.ensures c.if-stored.true in
+    let z = stored _ _ _ _ _ _ b _ _ _ _ _ c.request_of-q.ensures.0 (rw c.in_ok-outcome.was at c.packet.ensures) c.stores_on.ensures c.if-stores_on-outcome.true in
     let g = sound _ _ b.header in
     let w = sound _ _ z.header in
     let p = stands _ _ _ _ _ [] b in
@@ -47,12 +47,12 @@ rewrite-requires c =
       capacity_bound = few_at _ _ _ _ _ [] b _ p;
     }
 
-pub returns-then-stored : goal.returns-then-stored
-returns-then-stored c =
+pub returns-then-stores_on-outcome : goal.returns-then-stores_on-outcome
+returns-then-stores_on-outcome c =
     let b = c.requires in
-    let z = stored _ _ _ _ _ _ b _ _ _ _ _ c.request_of-q.ensures.0 c.packet-outcome.ensures c.stores_on.ensures c.if-stored.true in
-    rewrote _ _ _ _ _ _ b _ _ _ _ c.packet-outcome.ensures z c.rewrite.ensures
+    let z = stored _ _ _ _ _ _ b _ _ _ _ _ c.request_of-q.ensures.0 (rw c.in_ok-outcome.was at c.packet.ensures) c.stores_on.ensures c.if-stores_on-outcome.true in
+    rewrote _ _ _ _ _ _ b _ _ _ _ (rw c.in_ok-outcome.was at c.packet.ensures) z c.rewrite.ensures
 
-pub returns-else-stored : goal.returns-else-stored
-returns-else-stored c =
-    not_stored _ _ _ _ _ _ c.requires _ _ _ _ _ c.request_of-q.ensures.0 c.packet-outcome.ensures c.stores_on.ensures c.if-stored.false
+pub returns-else-stores_on-outcome : goal.returns-else-stores_on-outcome
+returns-else-stores_on-outcome c =
+    not_stored _ _ _ _ _ _ c.requires _ _ _ _ _ c.request_of-q.ensures.0 (rw c.in_ok-outcome.was at c.packet.ensures) c.stores_on.ensures c.if-stores_on-outcome.false
