@@ -1,5 +1,6 @@
 -- The check for 10: an index is fresh exactly where its entries are those of a fresh one.
 -- Assumes nothing.
+use Rattle.std.proofs.Common.{Fits, w8}
 use Rattle.std.specs.Prelude.{Option, Some, None}
 use mathlib.Core.Path.{◌≡◌, refl, sym, ap, ◌∙◌}
 use mathlib.Core.Bool.{Bool, true, false, ◌&&◌}
@@ -83,11 +84,11 @@ module _ (s : List ℕ) (h : Header) (good : header_of s ≡ Some h) where
         let z : 0 + j ≡ j = omega arith in
         ap (λ (i : ℕ). entry_at index i) z ∙ entry_is _ _ _ _ _ _ _ _ g j (omega (arith, parted_length _ _ _ _ _ _ _ _ g))))
 
-    module _ (bytes : (i : ℕ) → get_or index i 0 < 256) (room : 4 * h.capacity ≤ length index) where
+    module _ (bytes : (i : ℕ) → Fits w8 (get_or index i 0)) (room : 4 * h.capacity ≤ length index) where
       held-is-fresh : holds_entries index 0 (entries_of s) ≡ is_fresh s index
       held-is-fresh =
           test (holds_entries index 0 (entries_of s))
-          (λ t. t ∙ sym (fresh-of-held bytes room t))
+          (λ t. t ∙ sym (fresh-of-held (λ i. omega (arith, bytes i)) room t))
           (λ t. test (is_fresh s index) (λ f. never (held-of-fresh f) t) (λ f. t ∙ sym f))
 
       -- first the filemarks, then those that are none
@@ -102,21 +103,33 @@ module _ (s : List ℕ) (h : Header) (good : header_of s ≡ Some h) where
           ∙ sym (holds_append index marks (replicate (h.capacity - length marks) no_filemark) 0)
           ∙ rw (fields_are s h good) at held-is-fresh
 
-      pub found-differing : (x : Option ℕ) (r : Bool) → x ≡ compared_with index (marks_from s h.kinds h.recorded 0) → x ≡ None → r ≡ false
-          → r ≡ is_fresh s index
+      pub found_differing : None ≡ compared_with index (marks_from s h.kinds h.recorded 0) → false ≡ is_fresh s index
       unfolding compared_with
-      found-differing x r e d t =
+      found_differing e =
           let marks = marks_from s h.kinds h.recorded 0 in
-          let q = differs_by (holds_entries index 0 marks) (length marks) (sym e ∙ d) in
-          t ∙ rw q at parts_are
+          let q = differs_by (holds_entries index 0 marks) (length marks) (sym e) in
+          rw q at parts_are
 
-      pub found-same : (x : Option ℕ) (n : ℕ) (r : Bool) → x ≡ compared_with index (marks_from s h.kinds h.recorded 0) → x ≡ Some n
-          → r ≡ are_blank (part index (4 * n) (4 * h.capacity - 4 * n)) → r ≡ is_fresh s index
+      pub found_same : (n : ℕ) → Some n ≡ compared_with index (marks_from s h.kinds h.recorded 0)
+          → are_blank (part index (4 * n) (4 * h.capacity - 4 * n)) ≡ is_fresh s index
       unfolding compared_with
-      found-same x n r e d t =
+      found_same n e =
           let marks = marks_from s h.kinds h.recorded 0 in
-          let q = same_by (holds_entries index 0 marks) (length marks) n (sym e ∙ d) in
+          let q = same_by (holds_entries index 0 marks) (length marks) n (sym e) in
           let z : 4 * h.capacity - 4 * n ≡ 4 * (h.capacity - n) = omega arith in
           let b : are_blank (part index (4 * n) (4 * h.capacity - 4 * n)) ≡ holds_entries index n (replicate (h.capacity - n) no_filemark) =
-          rw z (blank_entries index n (h.capacity - n) bytes (λ x. omega arith)) in
-          t ∙ b ∙ rw q.1 (rw q.0 at parts_are)
+          rw z (blank_entries index n (h.capacity - n) (λ i. omega (arith, bytes i)) (λ x. omega arith)) in
+          b ∙ rw q.1 (rw q.0 at parts_are)
+
+      -- what the comparison needs
+      pub marks_fit : (h.kinds + h.recorded ≤ length s) × (h.recorded ≤ 65535) × (4 * h.recorded ≤ length index)
+      marks_fit = let g = sound s h good in omega arith
+
+      pub few_fit : (n : ℕ) → Some n ≡ compared_with index (marks_from s h.kinds h.recorded 0) → 4 * n ≤ 4 * h.capacity
+      unfolding compared_with
+      few_fit n e =
+          let marks = marks_from s h.kinds h.recorded 0 in
+          let q = same_by (holds_entries index 0 marks) (length marks) n (sym e) in
+          omega (arith, q.1, marks_few s h.kinds h.recorded 0, (sound s h good).recorded_within)
+
+pub ruleset fresh_ways = (found_differing, found_same, marks_fit, few_fit)

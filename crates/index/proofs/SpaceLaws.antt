@@ -30,30 +30,30 @@ use Rattle.index.proofs.MarkLaws.{with_place, marks_none, marks_first, marks_spl
 -- ---- the ways of `on_by_entries` and `back_by_entries`
 
 module _ (index : List ℕ) (before all end n p : ℕ) (m : Moved) where
-  pub on_none : n ≡ 0 → m ≡ halts p 0 Full → m ≡ on_by_entries index before all end n p
+  on_none : n ≡ 0 → m ≡ halts p 0 Full → m ≡ on_by_entries index before all end n p
   unfolding on_by_entries
   on_none z e = rw (e, eq-eqb n 0 z) refl
 
-  pub on_within : (place : ℕ) → (n ≡ 0 → ⊥) → n ≤ all - before → place ≡ entry_at index (before + n - 1) → m ≡ halts (place + 1) 0 Full
+  on_within : (place : ℕ) → (n ≡ 0 → ⊥) → n ≤ all - before → place ≡ entry_at index (before + n - 1) → m ≡ halts (place + 1) 0 Full
       → m ≡ on_by_entries index before all end n p
   unfolding on_by_entries
   on_within place z l q e = rw (e, ne_eqb n 0 z, le-leb n (all - before) l, q) refl
 
-  pub on_beyond : (n ≡ 0 → ⊥) → all - before < n → m ≡ halts end (n - (all - before)) AtEnd → m ≡ on_by_entries index before all end n p
+  on_beyond : (n ≡ 0 → ⊥) → all - before < n → m ≡ halts end (n - (all - before)) AtEnd → m ≡ on_by_entries index before all end n p
   unfolding on_by_entries
   on_beyond z l e = rw (e, ne_eqb n 0 z, lt-leb n (all - before) l) refl
 
 module _ (index : List ℕ) (before n p : ℕ) (m : Moved) where
-  pub back_none : n ≡ 0 → m ≡ halts p 0 Full → m ≡ back_by_entries index before n p
+  back_none : n ≡ 0 → m ≡ halts p 0 Full → m ≡ back_by_entries index before n p
   unfolding back_by_entries
   back_none z e = rw (e, eq-eqb n 0 z) refl
 
-  pub back_within : (place : ℕ) → (n ≡ 0 → ⊥) → n ≤ before → place ≡ entry_at index (before - n) → m ≡ halts place 0 Full
+  back_within : (place : ℕ) → (n ≡ 0 → ⊥) → n ≤ before → place ≡ entry_at index (before - n) → m ≡ halts place 0 Full
       → m ≡ back_by_entries index before n p
   unfolding back_by_entries
   back_within place z l q e = rw (e, ne_eqb n 0 z, le-leb n before l, q) refl
 
-  pub back_beyond : (n ≡ 0 → ⊥) → before < n → m ≡ halts 0 (n - before) AtBeginning → m ≡ back_by_entries index before n p
+  back_beyond : (n ≡ 0 → ⊥) → before < n → m ≡ halts 0 (n - before) AtBeginning → m ≡ back_by_entries index before n p
   unfolding back_by_entries
   back_beyond z l e = rw (e, ne_eqb n 0 z, lt-leb n before l) refl
 

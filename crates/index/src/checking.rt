@@ -1,5 +1,5 @@
 // Refusals 9 and 10: an index that is too short, or differs from a fresh one.
-ghost use Rattle.std.specs.Prelude.{◌≡◌, ◌+◌, ◌*◌, ◌<◌, ◌≤◌, ltb, length, Some, IfSome};
+ghost use Rattle.std.specs.Prelude.{◌≡◌, ◌+◌, ◌*◌, ◌<◌, ◌≤◌, ltb, length, Some};
 ghost use Rattle.image.specs.Header.{header_of};
 ghost use Rattle.index.specs.Entries.{marks_from, is_fresh};
 ghost use Rattle.index.specs.Checking.{compared_at, compared_with, are_blank};
@@ -29,8 +29,7 @@ fn compare_entry(index: &[u8], n: u32, p: u32, mark: bool) -> Option<u32>
 #[tactic(auto, using(crate::proofs::LoopLaws::compare_ways))]
 fn compare_marks(image: &[u8], h: Header, index: &[u8]) -> Option<u32>
     requires { (h.kinds + h.recorded ≤ length image.now) × (h.recorded ≤ 65535) × (4 * h.recorded ≤ length index.now) }
-    ensures value { result ≡ compared_with index.now (marks_from image.now h.kinds h.recorded 0) }
-    ensures few { IfSome result (λ n. n ≤ h.recorded) }
+    ensures { result ≡ compared_with index.now (marks_from image.now h.kinds h.recorded 0) }
 {
     let mut n: u32 = 0;
     for at in 0..h.recorded {
@@ -45,6 +44,7 @@ fn are_blank(bytes: &[u8]) -> bool
     bytes.iter().all(|byte| *byte == 0xff)
 }
 
+#[tactic(auto, using(crate::proofs::CheckLaws::fresh_ways))]
 pub fn is_fresh(image: &[u8], h: Header, index: &[u8]) -> bool
     requires image_value { header_of image.now ≡ Some h }
     requires capacity_in_bounds { 4 * h.capacity ≤ length index.now }

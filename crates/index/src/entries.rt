@@ -78,6 +78,7 @@ fn put_blanks(index: &mut [u8], first: u32, last: u32)
 }
 
 // The filemarks from place p to the end become the entries from `first` on, and those after them, before `last`, FFh.
+#[tactic(auto, using(crate::proofs::LoopLaws::put_both))]
 pub fn write_entries(
     image: &[u8],
     h: Header,

@@ -7,6 +7,7 @@ use image::header::Header;
 use stream_parts::requests::{is_back, magnitude_of};
 use transfer::{Moved, Stop, halt};
 
+#[tactic(auto, unfolding(crate::specs::Spacing::on_by_entries))]
 fn on_by_entries(index: &[u8], before: u32, all: u32, end: u32, n: u32, p: u32) -> Moved
     requires before_le_all { (before ≤ all) × (4 * all ≤ length index.now) × (all ≤ 65535) × (end ≤ 65535) }
     requires all_below { AllBelow index.now all end }
@@ -22,6 +23,7 @@ fn on_by_entries(index: &[u8], before: u32, all: u32, end: u32, n: u32, p: u32) 
     halt(end, n - ahead, Stop::AtEnd)
 }
 
+#[tactic(auto, unfolding(crate::specs::Spacing::back_by_entries))]
 fn back_by_entries(index: &[u8], before: u32, n: u32, p: u32) -> Moved
     requires { 4 * before ≤ length index.now }
     ensures { result ≡ back_by_entries index.now before n p }
@@ -35,7 +37,7 @@ fn back_by_entries(index: &[u8], before: u32, n: u32, p: u32) -> Moved
     halt(0, n - before, Stop::AtBeginning)
 }
 
-#[tactic(auto, unfolding(crate::specs::Spacing::run_by_entries))]
+#[tactic(auto, using(crate::proofs::LoopLaws::below_more), unfolding(crate::specs::Spacing::run_by_entries))]
 pub fn run_by_entries(index: &[u8], h: Header, p: u32, count: u32) -> Moved
     requires p_le_recorded { (p ≤ h.recorded) × (h.recorded ≤ h.capacity) × (h.capacity ≤ 65535) × (count < 2 ^ 24) }
     requires capacity_in_bounds { 4 * h.capacity ≤ length index.now }

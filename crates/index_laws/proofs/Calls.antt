@@ -9,11 +9,11 @@ use Rattle.numbers.proofs.SameLaws.{same_self}
 use Rattle.image.specs.Header.{fields_of}
 use Rattle.image.proofs.HeaderLaws.{good_header}
 use Rattle.packet_state.specs.declared.state.State.{State}
-use Rattle.packet_parts.specs.Answers.{refusal}
+use Rattle.packet_state.specs.Answers.{refusal}
 use Rattle.packet_parts.specs.Shell.{refuses}
 use Rattle.stream.specs.Packet.{packet_step}
 use Rattle.packet_laws.specs.Words.{number_of, Refusal}
-use Rattle.stream_laws.proofs.Leaving.{outcome_of}
+use Rattle.packet_laws.proofs.Settling.{told_settled, left_settled}
 use Rattle.stream_laws.proofs.Refusals as packet-alone
 use Rattle.index.specs.Entries.{fresh_index, is_fresh}
 use Rattle.index.specs.Keeping.{short_index, stale_index, Made, Indexed}
@@ -127,13 +127,10 @@ pub settled : Settled
 settled =
     record {
       packet = λ s index st packet buf r r' i i' n n' b b' p q.
-          let e = p ∙ sym q in (
-            ap (λ (x : Indexed). outcome_of x.left) e,
-            ap (λ (x : Indexed). x.left.image) e,
-            ap (λ (x : Indexed). x.index) e,
-            ap (λ (x : Indexed). x.left.buf) e,
-          );
+          let e = p ∙ sym q in
+          let l = left_settled st r r' i i' b b' (ap (λ (x : Indexed). x.left) e) in
+          (l.0, l.1, ap (λ (x : Indexed). x.index) e, l.2);
       make = λ s index r r' n n' p q.
           let e = p ∙ sym q in
-          (ap (λ (x : Made). x.answer) e, ap (λ (x : Made). x.index) e);
+          (told_settled r r' (ap (λ (x : Made). x.answer) e), ap (λ (x : Made). x.index) e);
     }

@@ -1,5 +1,6 @@
 -- The index after a packet, and where its entries stay.
 -- Assumes nothing.
+use Rattle.std.specs.Prelude.{Some}
 use Prim.Native.Nat.{ℕ, ◌+◌, ◌*◌, ◌-◌, ◌≤◌, ◌<◌}
 use mathlib.Core.Bool.{true}
 use mathlib.Core.List.{List, ◌++◌}
@@ -9,7 +10,6 @@ use lib.ListN.{length, get_or, drop, replicate, get_or-append, length-append}
 use lib.Seq.{take_at, drop-append_seam}
 use Rattle.numbers.proofs.OverLaws.{over_above, over_length}
 use Rattle.image.specs.declared.header.Header.{Header}
-use Rattle.image.specs.declared.header.Judged.TheVariants.{Good}
 use Rattle.image.specs.Header.{fields_of, keeps_header_rules, header_of, with_recorded}
 use Rattle.image.proofs.HeaderLaws.{fields_are, keeps_of, good_header}
 use Rattle.packet_state.specs.declared.state.State.{State}
@@ -53,7 +53,7 @@ module _ (s index : List ℕ) (good : keeps_header_rules s ≡ true) where
         }
 
 -- the bytes of the entries before place p
-front_is : (t index : List ℕ) (h : Header) (p i : ℕ) → header_of t ≡ Good h → p ≤ h.recorded → i < 4 * length (marks_from t h.kinds p 0)
+front_is : (t index : List ℕ) (h : Header) (p i : ℕ) → header_of t ≡ Some h → p ≤ h.recorded → i < 4 * length (marks_from t h.kinds p 0)
     → get_or (fresh_index t index) i 0 ≡ get_or (entry_bytes (marks_from t h.kinds p 0)) i 0
 front_is t index h p i good l m =
     let before = marks_from t h.kinds p 0 in

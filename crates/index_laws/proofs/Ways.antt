@@ -12,7 +12,8 @@ use lib.ListN.{length}
 use Rattle.image.specs.Header.{fields_of, keeps_header_rules, broken_image}
 use Rattle.packet_state.specs.declared.state.State.{State}
 use Rattle.packet_state.specs.States.{keeps_record_rules}
-use Rattle.packet_parts.specs.Answers.{refusal, answered, good_status, not_twelve_bytes, unruly_record}
+use Rattle.packet_state.specs.Answers.{refusal}
+use Rattle.packet_parts.specs.Answers.{answered, good_status, not_twelve_bytes, unruly_record}
 use Rattle.packet_parts.specs.Requests.{packet_length}
 use Rattle.packet_parts.specs.Shell.{refuses, answers_to}
 use Rattle.stream.specs.Packet.{packet_step}

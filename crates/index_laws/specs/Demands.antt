@@ -1,13 +1,14 @@
 -- What the filemark index promises (02, A4), one named type each; proofs/ proves them.
 -- Assumes nothing.
-use Rattle.std.specs.Prelude.{ℕ, ◌≤◌, ◌<◌, true, List, ◌↔◌, ◌≡◌, length, get_or}
+use Rattle.std.specs.Prelude.{ℕ, ◌≤◌, ◌<◌, true, List, ◌↔◌, ◌≡◌, Result, length, get_or}
+use Rattle.numbers.specs.declared.refusals.Refusal.{Refusal as Reason}
 use Rattle.numbers.specs.Member.{is_in}
 use Rattle.image.specs.declared.elements.Kind.TheVariants.{Filemark}
 use Rattle.image.specs.Header.{fields_of, keeps_header_rules}
-use Rattle.packet_state.specs.declared.state.Answer.{Answer}
+use Rattle.packet_state.specs.Answers.{refusal}
 use Rattle.packet_state.specs.declared.state.Outcome.{Outcome}
 use Rattle.packet_state.specs.declared.state.State.{State}
-use Rattle.packet_parts.specs.Answers.{refusal}
+use Rattle.packet_state.specs.declared.state.Told.{Told}
 use Rattle.stream_parts.specs.Requests.{over_filemarks}
 use Rattle.stream.specs.Packet.{packet_step}
 use Rattle.stream.specs.Work.{space_run}
@@ -76,10 +77,10 @@ pub record ListsFilemarks : Type 0 where
 
 -- 01: "Prove that any two outcomes allowed by it coincide"
 pub record Settled : Type 0 where
-  pub packet : (s index : List ℕ) (st : State) (packet buf : List ℕ) (r r' : Outcome) (image image' left left' buf' buf'' : List ℕ)
+  pub packet : (s index : List ℕ) (st : State) (packet buf : List ℕ) (r r' : Result (Outcome State) Reason) (image image' left left' buf' buf'' : List ℕ)
       → IndexedPromise s index st packet buf r image left buf' → IndexedPromise s index st packet buf r' image' left' buf''
       → (r ≡ r') × (image ≡ image') × (left ≡ left') × (buf' ≡ buf'')
-  pub make : (s index : List ℕ) (r r' : Answer) (left left' : List ℕ) → MakePromise s index r left → MakePromise s index r' left'
+  pub make : (s index : List ℕ) (r r' : Result Told Reason) (left left' : List ℕ) → MakePromise s index r left → MakePromise s index r' left'
       → (r ≡ r') × (left ≡ left')
 
 -- A4 worked out by hand: an index made, and packets beside one; so what is supposed above can be so
