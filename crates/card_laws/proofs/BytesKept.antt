@@ -1,5 +1,6 @@
 -- What a call of the pulse drive leaves are bytes again.
 -- Assumes nothing.
+use Rattle.std.specs.Prelude.{Option, Some, None}
 use mathlib.Core.Path.{◌≡◌}
 use mathlib.Core.Bool.{Bool, true, false, ◌||◌}
 use mathlib.Core.List.{List, [], ◌∷◌, ◌++◌, append_assoc}
@@ -9,7 +10,6 @@ use borrow.Author.Tests.{eqb-true, leb-true, ltb-true}
 use Rattle.numbers.specs.Choice.{◌≡ᵇ◌}
 use Rattle.numbers.specs.Counts.{count_bytes}
 use Rattle.pulse_codes.specs.declared.arguments.Waiting.{Waiting}
-use Rattle.pulse_codes.specs.declared.arguments.Waiting.TheVariants.{Nothing, For}
 use Rattle.pulse_codes.specs.Arguments.{highest_rate, needed, waiting_fits}
 use Rattle.pulse_codes.specs.Codes.{seek_track, select_rate, skip_reverse, skip_forward, skip_extended_reverse, skip_extended_forward}
 use Rattle.pulse_codes.specs.Errors.{admitted_errors}
@@ -23,7 +23,8 @@ use Rattle.pulse_laws.proofs.Rules.{Cart, full, bare, to_rules}
 use Rattle.numbers.specs.Flags.{weight_of}
 use Rattle.numbers.proofs.Cases.{ands, or_by, test}
 use Rattle.numbers.proofs.MemberLaws.{largest, in_largest}
-use Rattle.pulse_record.specs.PulseRecord.{motion_byte, waited_code, encode_drive}
+use Rattle.pulse_parts.specs.Heads.{motion_byte}
+use Rattle.pulse_record.specs.PulseRecord.{waited_code, encode_drive}
 use Rattle.card_laws.specs.Promises.{Bytes, FitsBytes}
 use Rattle.card_laws.proofs.CycleLaws.{few_held}
 
@@ -89,11 +90,11 @@ code_low code l =
     one_of x y p q e =
         or_by (code ≡ᵇ x) (code ≡ᵇ y) e (λ a. omega (arith, eqb-true code x a)) (λ a. omega (arith, eqb-true code y a))
 
-waited_low : (w : Waiting) (free referenced : Bool) → waiting_fits w free referenced ≡ true → waited_code w < 256
-waited_low Nothing free referenced e = omega arith
-waited_low (For code held value) free referenced e =
-    let l : held < needed code = ltb-true held (needed code) (search ands) in
-    code_low code (omega arith)
+waited_low : (w : Option Waiting) (free referenced : Bool) → waiting_fits w free referenced ≡ true → waited_code w < 256
+waited_low None free referenced e = omega arith
+waited_low (Some w) free referenced e =
+    let l : w.held < needed w.code = ltb-true w.held (needed w.code) (search ands) in
+    code_low w.code (omega arith)
 
 -- ---- its bytes
 

@@ -13,9 +13,8 @@ use Rattle.numbers.specs.Choice.{◌≡ᵇ◌}
 use Rattle.numbers.specs.Counts.{count_at}
 use Rattle.numbers.proofs.Cases.{either}
 use Rattle.pulse_parts.specs.declared.cartridge.Cartridge.{Cartridge}
-use Rattle.pulse.specs.declared.calls.Waited.{Waited}
 use Rattle.pulse.specs.declared.drive.Drive.{Drive}
-use Rattle.pulse.specs.Calls.{not_refused, train_call, tick_call, insert_call, remove_call, wait_call}
+use Rattle.pulse.specs.Calls.{Waited, not_refused, train_call, tick_call, insert_call, remove_call, wait_call}
 use Rattle.pulse.specs.Drives.{is_ready, power_on}
 use Rattle.pulse.specs.Events.{steps_to}
 use Rattle.pulse.specs.Motions.{ticked}
