@@ -34,7 +34,8 @@ use Rattle.packet_record.specs.PacketRecord.{encode_answer}
 use Rattle.floppy_record.specs.FloppyRecord.{decode_floppy, encode_floppy, encode_tape}
 use Rattle.tapecard.specs.FloppyCalls.{floppy_record, floppy_left, floppy_packet_left, floppy_fresh_call, floppy_change_call, floppy_packet_call}
 use Rattle.card_laws.specs.Promises.{Bytes, FitsTape, FloppyStaysBytes}
-use Rattle.card_laws.proofs.BytesKept.{All, bytes_of_lem, count_all, flag_most, next, none}
+use Rattle.card_laws.proofs.ByteLaws.{weight_most}
+use Rattle.card_laws.proofs.BytesKept.{All, bytes_of_lem, count_all, next, none}
 use Rattle.card_laws.proofs.CycleLaws.{decoded_tape_fits}
 use Rattle.card_laws.proofs.FloppyFollowing.{full_sound, reset_fits, tape_left}
 use Rattle.card_laws.proofs.PacketBytes.{Fits, alike, answer_bytes, answer-fits, ending_of_lem, ends_fits, fits, fits_of, low, low_ending, sense_low}
@@ -86,7 +87,7 @@ tape_all t f =
     next f.density
     (next f.fill
     (next f.bseg
-    (next {x = flags_byte x} (omega (arith, flag_most x.deleted 0x80, flag_most x.reduced 0x40, flag_most x.formatting 0x20))
+    (next {x = flags_byte x} (omega (arith, weight_most x.deleted 0x80, weight_most x.reduced 0x40, weight_most x.formatting 0x20))
     (count_all 2 t.segtrk
     (count_all 2 t.trks
     (next f.sector (next f.cylinder (next f.head (next zero (next zero (next zero (next zero (next zero none)))))))))))))

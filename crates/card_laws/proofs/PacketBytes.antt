@@ -46,7 +46,8 @@ use Rattle.stream_laws.proofs.Leaving.{accepted_leaves}
 use Rattle.packet_record.specs.PacketRecord.{attention_byte, decode_state, encode_answer, encode_state}
 use Rattle.tapecard.specs.PacketCalls.{packet_call, packet_change, packet_fresh, packet_left}
 use Rattle.card_laws.specs.Promises.{Bytes, PacketStaysBytes}
-use Rattle.card_laws.proofs.BytesKept.{All, bytes_of_lem, count_all, flag_most, next, none}
+use Rattle.card_laws.proofs.ByteLaws.{weight_most}
+use Rattle.card_laws.proofs.BytesKept.{All, bytes_of_lem, count_all, next, none}
 
 -- ---- every number that a packet tells, and both codes of every sense that it leaves, stand in a byte each
 
@@ -172,13 +173,13 @@ state_all st key l a =
     let asc = ltb-true x.asc 256 (search ands) in
     let ascq = ltb-true x.ascq 256 (search ands) in
     count_all 4 st.position
-    (next (omega (arith, flag_most st.loaded 1, flag_most st.locked 2))
+    (next (omega (arith, weight_most st.loaded 1, weight_most st.locked 2))
     (next (attention_byte_lem st.attention)
     (count_all 2 st.speed
     (next key
     (next asc
     (next ascq
-    (next (omega (arith, flag_most x.valid 1, flag_most x.eom 2, flag_most x.filemark 4)) (count_all 4 x.information a))))))))
+    (next (omega (arith, weight_most x.valid 1, weight_most x.eom 2, weight_most x.filemark 4)) (count_all 4 x.information a))))))))
 
 state_bytes : (st : State) → st.sense.key < 256 → low st.sense ≡ true → Bytes (encode_state st)
 unfolding encode_state
