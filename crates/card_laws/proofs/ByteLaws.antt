@@ -14,8 +14,10 @@ use Rattle.packet_state.specs.declared.state.Attention.TheVariants.{Nothing, Med
 use Rattle.pulse_parts.specs.declared.head.Motion.{Motion}
 use Rattle.pulse_parts.specs.declared.head.Motion.TheVariants.{Still, Run, Load}
 use Rattle.numbers.specs.Flags.{is_set, weight_of}
-use Rattle.packet_record.specs.PacketRecord.{attention_of, attention_byte}
-use Rattle.pulse_record.specs.PulseRecord.{motion_of, motion_byte, unsent}
+use Rattle.packet_state.specs.States.{attention_of}
+use Rattle.packet_record.specs.PacketRecord.{attention_byte}
+use Rattle.pulse_parts.specs.Heads.{motion_of, motion_byte}
+use Rattle.pulse_record.specs.PulseRecord.{unsent}
 
 -- ---- numbers: the law over the width, as it computes at two bytes and at four
 

@@ -1,15 +1,15 @@
 -- What a call of the pulse drive leaves are bytes again.
 -- Assumes nothing.
+use Rattle.std.specs.Prelude.{Option, Some, None}
 use mathlib.Core.Path.{◌≡◌}
 use mathlib.Core.Bool.{Bool, true, false, ◌||◌}
 use mathlib.Core.List.{List, [], ◌∷◌, ◌++◌, append_assoc}
-use Prim.Native.Nat.{ℕ, zero, suc, ◌/◌, ◌%◌, ◌<◌, ◌≤◌}
+use Prim.Native.Nat.{ℕ, zero, suc, ◌/◌, ◌%◌, ◌<◌}
 use native.Mathlib.Omega.{arith}
 use borrow.Author.Tests.{eqb-true, leb-true, ltb-true}
 use Rattle.numbers.specs.Choice.{◌≡ᵇ◌}
 use Rattle.numbers.specs.Counts.{count_bytes}
 use Rattle.pulse_codes.specs.declared.arguments.Waiting.{Waiting}
-use Rattle.pulse_codes.specs.declared.arguments.Waiting.TheVariants.{Nothing, For}
 use Rattle.pulse_codes.specs.Arguments.{highest_rate, needed, waiting_fits}
 use Rattle.pulse_codes.specs.Codes.{seek_track, select_rate, skip_reverse, skip_forward, skip_extended_reverse, skip_extended_forward}
 use Rattle.pulse_codes.specs.Errors.{admitted_errors}
@@ -20,11 +20,12 @@ use Rattle.pulse_parts.specs.Reports.{most_items}
 use Rattle.pulse.specs.declared.drive.Drive.{Drive}
 use Rattle.pulse.specs.Rules.{is_free, keeps_rules, max_format, max_kind, max_tracks}
 use Rattle.pulse_laws.proofs.Rules.{Cart, full, bare, to_rules}
-use Rattle.numbers.specs.Flags.{weight_of}
 use Rattle.numbers.proofs.Cases.{ands, or_by, test}
 use Rattle.numbers.proofs.MemberLaws.{largest, in_largest}
-use Rattle.pulse_record.specs.PulseRecord.{motion_byte, waited_code, encode_drive}
+use Rattle.pulse_parts.specs.Heads.{motion_byte}
+use Rattle.pulse_record.specs.PulseRecord.{waited_code, encode_drive}
 use Rattle.card_laws.specs.Promises.{Bytes, FitsBytes}
+use Rattle.card_laws.proofs.ByteLaws.{weight_most}
 use Rattle.card_laws.proofs.CycleLaws.{few_held}
 
 -- a list of bytes, by its first and its rest
@@ -43,10 +44,6 @@ bytes_of_lem (next l a) zero = l
 bytes_of_lem (next l a) (suc i) = bytes_of_lem a i
 
 -- ---- the numbers of a drive that keeps the rules
-
-pub flag_most : (b : Bool) (weight : ℕ) → weight_of b weight ≤ weight
-flag_most true weight = omega arith
-flag_most false weight = omega arith
 
 motion_low : (m : Motion) → motion_byte m < 256
 motion_low Still = omega arith
@@ -89,11 +86,11 @@ code_low code l =
     one_of x y p q e =
         or_by (code ≡ᵇ x) (code ≡ᵇ y) e (λ a. omega (arith, eqb-true code x a)) (λ a. omega (arith, eqb-true code y a))
 
-waited_low : (w : Waiting) (free referenced : Bool) → waiting_fits w free referenced ≡ true → waited_code w < 256
-waited_low Nothing free referenced e = omega arith
-waited_low (For code held value) free referenced e =
-    let l : held < needed code = ltb-true held (needed code) (search ands) in
-    code_low code (omega arith)
+waited_low : (w : Option Waiting) (free referenced : Bool) → waiting_fits w free referenced ≡ true → waited_code w < 256
+waited_low None free referenced e = omega arith
+waited_low (Some w) free referenced e =
+    let l : w.held < needed w.code = ltb-true w.held (needed w.code) (search ands) in
+    code_low w.code (omega arith)
 
 -- ---- its bytes
 
@@ -108,13 +105,13 @@ encoded_bytes d k f =
     let error = in_largest d.fault.error admitted_errors r.0.error in
     let left = leb-true d.report.left most_items (search ands) in
     let held = few_held d.waiting free m.referenced r.1 in
-    let repeat = flag_most d.report.repeat 16 in
+    let repeat = weight_most d.report.repeat 16 in
     bytes_of_lem
-    (next (omega (arith, flag_most m.inside 1, flag_most m.referenced 2, flag_most m.fresh 4, flag_most m.asked 8, repeat))
+    (next (omega (arith, weight_most m.inside 1, weight_most m.referenced 2, weight_most m.fresh 4, weight_most m.asked 8, repeat))
     (next (motion_low d.head.motion)
     (count_all 2 d.cart.segments
     (next c.tracks
-    (next (omega (arith, flag_most d.cart.protected 1, flag_most d.cart.burst 2, flag_most d.cart.wide 4))
+    (next (omega (arith, weight_most d.cart.protected 1, weight_most d.cart.burst 2, weight_most d.cart.wide 4))
     (next c.format
     (next c.kind
     (count_all 2 d.head.place
@@ -123,7 +120,7 @@ encoded_bytes d k f =
     (next (omega arith)
     (next (omega arith)
     (next f.command
-    (next (omega (arith, flag_most d.level 1))
+    (next (omega (arith, weight_most d.level 1))
     (next (omega arith)
     (count_all 2 _
     (next (waited_low d.waiting free m.referenced r.1)

@@ -18,7 +18,6 @@ use Rattle.stream_laws.proofs.Refusals.{refused_keeps}
 use Rattle.index.specs.Entries.{fresh_index, is_fresh}
 use Rattle.index.specs.Keeping.{Made, Indexed}
 use Rattle.floppy_parts.specs.declared.tape.Floppy.{Floppy}
-use Rattle.floppy_parts.specs.declared.tape.FloppyOutcome.{FloppyOutcome}
 use Rattle.floppy_laws.proofs.Refusals.{refused_keeps as floppy-refused-keeps}
 use Rattle.floppy_record.specs.FloppyRecord.{decode_floppy}
 use Rattle.tapecard.specs.FloppyCalls.{floppy_card, floppy_left, floppy_packet_left, floppy_fresh_call, floppy_change_call, floppy_packet_call}
@@ -77,7 +76,7 @@ index_refused_untouched =
           ∙ ap (λ (c : PacketCard). index_card c index) (kept n));
     }
 
-told_untouched : (state : List ℕ) (o : FloppyOutcome) → Refused (floppy_left state o).answer → (floppy_left state o).state ≡ state
+told_untouched : (state : List ℕ) (o : Left Floppy) → Refused (floppy_left state o).answer → (floppy_left state o).state ≡ state
 unfolding floppy_left encode_answer
 told_untouched state o n = rw (ne_eqb _ _ n)
 

@@ -1,6 +1,6 @@
 -- A record that is encoded is decoded again.
 -- Assumes nothing.
-use Rattle.std.specs.Prelude.{if◌then◌else◌}
+use Rattle.std.specs.Prelude.{if◌then◌else◌, Option, Some, None}
 use mathlib.Core.Path.{◌≡◌, refl}
 use mathlib.Core.Bool.{Bool, true, false, ◌||◌}
 use mathlib.Core.List.{List, [], ◌++◌}
@@ -17,7 +17,6 @@ use Rattle.packet_state.specs.declared.state.Attention.{Attention}
 use Rattle.packet_state.specs.declared.state.Sense.{Sense}
 use Rattle.packet_state.specs.declared.state.State.{State}
 use Rattle.pulse_codes.specs.declared.arguments.Waiting.{Waiting}
-use Rattle.pulse_codes.specs.declared.arguments.Waiting.TheVariants.{Nothing, For}
 use Rattle.pulse_codes.specs.Arguments.{needed, waiting_fits}
 use Rattle.pulse_codes.specs.Codes.{seek_track, select_rate, skip_reverse, skip_forward, skip_extended_reverse, skip_extended_forward}
 use Rattle.pulse_parts.specs.declared.cartridge.Cartridge.{Cartridge}
@@ -99,14 +98,14 @@ cartridge_back c h =
     let b = three_back c.protected c.burst c.wide in
     rw (two_back c.segments h, b.0, b.1.0, b.1.1)
 
-waiting_back : (w : Waiting) → HeldAlone w → (waited_code w ≡ 0 → w ≡ Nothing) → waited_held w ≤ 4
+waiting_back : (w : Option Waiting) → HeldAlone w → (waited_code w ≡ 0 → w ≡ None) → waited_held w ≤ 4
     → waiting_of (waited_code w) (waited_held w) (waited_value w / 256 % 256 * 256 + waited_value w % 256) ≡ w
 unfolding waiting_of
-waiting_back Nothing a n l = refl
-waiting_back (For code held value) a n l =
-    let small : value < 2 ^ 16 = lt_of_lt_of_le a (pow-le-pow_right (zero-lt-suc 15) l) in
-    let some : code ≡ 0 → ⊥ = λ z. (let q : For code held value ≡ Nothing = n z in let o : ◌≡◌ {A = ℕ} 0 1 = cc in omega arith) in
-    rw (ne_eqb code 0 some, two_back value small, mod-eq_of_lt a)
+waiting_back None a n l = refl
+waiting_back (Some w) a n l =
+    let small : w.value < 2 ^ 16 = lt_of_lt_of_le a (pow-le-pow_right (zero-lt-suc 15) l) in
+    let some : w.code ≡ 0 → ⊥ = λ z. (let q : Some w ≡ None = n z in let o : ◌≡◌ {A = ℕ} 0 1 = cc in omega arith) in
+    rw (ne_eqb w.code 0 some, two_back w.value small, mod-eq_of_lt a)
 
 -- ---- what the rules say
 
@@ -141,21 +140,21 @@ needed_most code =
     most_of_three ((code ≡ᵇ seek_track) || (code ≡ᵇ select_rate)) ((code ≡ᵇ skip_reverse) || (code ≡ᵇ skip_forward))
     ((code ≡ᵇ skip_extended_reverse) || (code ≡ᵇ skip_extended_forward))
 
-pub few_held : (w : Waiting) (free referenced : Bool) → waiting_fits w free referenced ≡ true → waited_held w ≤ 4
-few_held Nothing free referenced e = omega arith
-few_held (For code held value) free referenced e =
-    let l : held < needed code = ltb-true held (needed code) (search ands) in
-    let m = needed_most code in
+pub few_held : (w : Option Waiting) (free referenced : Bool) → waiting_fits w free referenced ≡ true → waited_held w ≤ 4
+few_held None free referenced e = omega arith
+few_held (Some w) free referenced e =
+    let l : w.held < needed w.code = ltb-true w.held (needed w.code) (search ands) in
+    let m = needed_most w.code in
     omega arith
 
 -- no code 0 takes arguments
-coded : (w : Waiting) (free referenced : Bool) → waiting_fits w free referenced ≡ true → waited_code w ≡ 0 → w ≡ Nothing
+coded : (w : Option Waiting) (free referenced : Bool) → waiting_fits w free referenced ≡ true → waited_code w ≡ 0 → w ≡ None
 unfolding needed
-coded Nothing free referenced e z = refl
-coded (For code held value) free referenced e z =
-    let l : (held <ᵇ needed code) ≡ true = search ands in
-    let m : (held <ᵇ needed 0) ≡ true = rw z at l in
-    let n : held < 0 = ltb-true held 0 m in
+coded None free referenced e z = refl
+coded (Some w) free referenced e z =
+    let l : (w.held <ᵇ needed w.code) ≡ true = search ands in
+    let m : (w.held <ᵇ needed 0) ≡ true = rw z at l in
+    let n : w.held < 0 = ltb-true w.held 0 m in
     absurd (let o : ◌≡◌ {A = ℕ} 0 1 = omega arith in omega arith)
 
 -- ---- the pulse drive
@@ -172,7 +171,7 @@ same_report : {l b b' : ℕ} {r r' : Bool} → b ≡ b' → r ≡ r' →
     ◌≡◌ {A = Report} (record { left = l; bits = b; repeat = r }) (record { left = l; bits = b'; repeat = r' })
 same_report b r = rw (b, r)
 
-same_drive : {c c' : Cartridge} {h h' : Head} {m m' : Marks} {f : Fault} {r r' : Report} {w w' : Waiting} {rate rom v v' : ℕ} {l l' : Bool}
+same_drive : {c c' : Cartridge} {h h' : Head} {m m' : Marks} {f : Fault} {r r' : Report} {w w' : Option Waiting} {rate rom v v' : ℕ} {l l' : Bool}
     → c ≡ c' → h ≡ h' → m ≡ m' → r ≡ r' → w ≡ w' → l ≡ l' → v ≡ v'
     → drive_of c h m f r w rate l v rom ≡ drive_of c' h' m' f r' w' rate l' v' rom
 same_drive c h m r w l v = rw (c, h, m, r, w, l, v)
@@ -214,7 +213,8 @@ decoded_tape_fits s h =
       head = h 26;
     }
 
-held_alone : (none : Bool) (code held value : ℕ) → HeldAlone (if none then Nothing else For code held (value % 16 ^ held))
+held_alone : (none : Bool) (code held value : ℕ)
+    → HeldAlone (if none then None else Some record { code = code; held = held; value = value % 16 ^ held })
 held_alone true code held value = tt
 held_alone false code held value = mod-lt value (one-le-pow held 16 (zero-lt-suc 15))
 

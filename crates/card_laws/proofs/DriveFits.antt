@@ -1,5 +1,6 @@
 -- Every call of the pulse drive leaves numbers that fit their bytes.
 -- Assumes nothing.
+use Rattle.std.specs.Prelude.{Option, Some, None}
 use mathlib.Core.Path.{◌≡◌, refl}
 use mathlib.Core.Bool.{Bool, true, false, not, ◌&&◌, ◌||◌}
 use mathlib.Core.List.{List, [], ◌∷◌}
@@ -11,7 +12,6 @@ use Rattle.numbers.specs.Choice.{◌≡ᵇ◌, ◌<ᵇ◌, ◌≤ᵇ◌}
 use Rattle.numbers.proofs.Cases.{ands, either, test}
 use Rattle.numbers.proofs.MemberLaws.{largest, in_largest}
 use Rattle.pulse_codes.specs.declared.arguments.Waiting.{Waiting}
-use Rattle.pulse_codes.specs.declared.arguments.Waiting.TheVariants.{Nothing, For}
 use Rattle.pulse_codes.specs.Arguments.{highest_nibble, highest_rate, in_range, joined, needed, nibble_of}
 use Rattle.pulse_codes.specs.Codes.{ignored, logical_forward, needs_cartridge, needs_reference, pause, physical_forward, physical_reverse}
 use Rattle.pulse_codes.specs.Codes.{report_configuration, report_error, report_next_bit, report_rom, report_status, report_vendor, seek_load_point, seek_track}
@@ -28,11 +28,9 @@ use Rattle.pulse_parts.specs.Faults.{error_held, no_command}
 use Rattle.pulse_parts.specs.Heads.{at_start, is_run, is_still, standing_at}
 use Rattle.pulse_parts.specs.Marking.{new_marks, no_marks}
 use Rattle.pulse_parts.specs.Reports.{extra_length, items_left, no_report, owing, qic80, status_bits, configuration_bits, tape_bits}
-use Rattle.pulse.specs.declared.calls.Step.{Step}
-use Rattle.pulse.specs.declared.calls.Waited.{Waited}
 use Rattle.pulse.specs.declared.drive.Drive.{Drive}
 use Rattle.pulse.specs.Arguments.{argument_for, argument_or, argument_read, argument_taken, nibble_taken, skipped, step_argument, track_sought}
-use Rattle.pulse.specs.Calls.{insert_call, not_refused, remove_call, tick_call, train_call, wait_call}
+use Rattle.pulse.specs.Calls.{Step, Waited, insert_call, not_refused, remove_call, tick_call, train_call, wait_call}
 use Rattle.pulse.specs.Commands.{checked, obeyed, step_command}
 use Rattle.pulse.specs.Drives.{is_ready, power_on, with_fault, with_level, with_report, with_waiting, without_arguments}
 use Rattle.pulse.specs.Events.{exchanged, inserted, removed, run_for, steps_to}
@@ -90,11 +88,11 @@ module _ (d : Drive) (f : Fit d) where
   report_fit : (r : Report) → Sound r → Fit (with_report d r)
   report_fit r s = record { vendor = f.vendor; rom = f.rom; command = f.command; bits = s.0; closed = s.1; held = f.held }
 
-  waiting_fit : (w : Waiting) → HeldAlone w → Fit (with_waiting d w)
+  waiting_fit : (w : Option Waiting) → HeldAlone w → Fit (with_waiting d w)
   waiting_fit w h = record { vendor = f.vendor; rom = f.rom; command = f.command; bits = f.bits; closed = f.closed; held = h }
 
   unasked_fit : Fit (without_arguments d)
-  unasked_fit = waiting_fit Nothing tt
+  unasked_fit = waiting_fit None tt
 
   shut_fit : Fit (with_report d no_report)
   shut_fit = report_fit no_report (omega arith, λ e. refl)
@@ -173,7 +171,8 @@ module _ (d : Drive) (f : Fit d) (code held low : ℕ) where
   unfolding nibble_taken skipped
   nibble_fit nibble l =
       let run = run_fit (without_arguments d) (unasked_fit d f) in
-      either Fit (held + 1 <ᵇ needed code) _ _ (λ m. waiting_fit d f (For code (held + 1) (joined low held nibble)) (joined_low low held nibble l))
+      either Fit (held + 1 <ᵇ needed code) _ _
+      (λ m. waiting_fit d f (Some record { code = code; held = held + 1; value = joined low held nibble }) (joined_low low held nibble l))
       (λ m. either Fit ((code ≡ᵇ skip_reverse) || (code ≡ᵇ skip_extended_reverse)) _ _ (λ b. run _) (λ b. run _))
 
   value_fit : (value : ℕ) → in_range code value ≡ true → Fit (argument_taken d code held low value)
@@ -186,9 +185,9 @@ module _ (d : Drive) (f : Fit d) (code held low : ℕ) where
   unfolding argument_read nibble_of
   read_fit n = either (λ x. Fit (argument_or d code held low x)) (in_range code (n - 2)) _ _ (value_fit (n - 2)) (λ e. unasked_fit d f)
 
-argument_fit : (w : Waiting) (d : Drive) (n : ℕ) → Fit d → Fit (argument_for w d n)
-argument_fit Nothing d n f = f
-argument_fit (For code held low) d n f = read_fit d f code held low n
+argument_fit : (w : Option Waiting) (d : Drive) (n : ℕ) → Fit d → Fit (argument_for w d n)
+argument_fit None d n f = f
+argument_fit (Some w) d n f = read_fit d f w.code w.held w.value n
 
 -- ---- step 3: a train in an open report
 
@@ -279,7 +278,7 @@ obey_fit d n f =
     either Fit ((n ≡ᵇ pause) || (n ≡ᵇ stop_tape)) _ _ (λ e. f)
     (λ e. either Fit ((n ≡ᵇ logical_forward) || (n ≡ᵇ physical_forward)) _ _ (λ e. run_fit d f d.cart.segments)
     (λ e. either Fit (n ≡ᵇ physical_reverse) _ _ (λ e. run_fit d f 0)
-    (λ e. either Fit (n ≡ᵇ seek_load_point) _ _ (λ e. load_fit d f) (λ e. waiting_fit d f (For n 0 0) (omega arith)))))
+    (λ e. either Fit (n ≡ᵇ seek_load_point) _ _ (λ e. load_fit d f) (λ e. waiting_fit d f (Some record { code = n; held = 0; value = 0 }) (omega arith)))))
 
 module _ (n : ℕ) (low : n < 2 ^ 8) where
   check_fit : (d : Drive) → Fit d → Fit (checked d n)

@@ -5,29 +5,31 @@ use mathlib.Core.List.{List, [], ◌∷◌, ◌++◌, append_assoc}
 use Prim.Native.Nat.{ℕ, zero, suc, ◌+◌, ◌*◌, ◌/◌, ◌%◌}
 use native.Mathlib.Nat.{mul-le-mul_right}
 use native.Mathlib.Omega.{arith}
-use borrow.Author.Tests.{lt-ltb, ne_eqb}
+use borrow.Author.Tests.{eqb-false, lt-ltb, ne_eqb}
 use lib.ListN.{length, take, drop, replicate}
 use lib.Seq.{get_or-drop}
 use Rattle.numbers.specs.Flags.{weight_of}
 use Rattle.numbers.specs.Over.{part}
+use Rattle.numbers.specs.Refusals.{number_of}
 use Rattle.numbers.specs.Words.{word_bytes}
+use Rattle.numbers.proofs.RefusalLaws.{not_zero}
 use Rattle.image.specs.declared.elements.Kind.{Kind}
 use Rattle.image.specs.declared.elements.Kind.TheVariants.{Data, Filemark, Unreadable, Marked}
 use Rattle.image.specs.declared.header.Header.{Header}
 use Rattle.image.specs.Elements.{kind_at, block_at}
 use Rattle.image.specs.Header.{fields_of}
 use Rattle.image.proofs.HeaderLaws.{sound, good_header}
-use Rattle.packet_state.specs.declared.state.Answer.{Answer}
+use Rattle.packet_state.specs.Answers.{Answer}
 use Rattle.packet_state.specs.declared.state.State.{State}
 use Rattle.packet_parts.specs.Answers.{Left}
 use Rattle.packet_record.specs.PacketRecord.{decode_state, encode_answer}
-use Rattle.tap.specs.Files.{Element, TapeMark, Block, Refused, record_bytes, bytes_of, file_of}
+use Rattle.tap.specs.Files.{Element, TapeMark, Block, record_bytes, bytes_of, file_of}
 use Rattle.tap.specs.Items.{tape_mark, end_mark, high_bit}
 use Rattle.tap.proofs.ReadLaws.{reads_most, reads_used, refused_number}
 use Rattle.exchange.specs.Exporting.{element_of, elements_from, elements_of, Exported}
 use Rattle.exchange_laws.proofs.Due.{refused_keeps}
 use Rattle.exchange_laws.proofs.Exchanging.{export_then_import, file_room}
-use Rattle.exchange_laws.proofs.Ways.{reading, ImportWay, broken, refused, taken, import_way, ExportWay, bad, short, well, export_way}
+use Rattle.exchange_laws.proofs.Ways.{ImportWay, broken, refused, taken, import_way, ExportWay, bad, short, well, export_way}
 use Rattle.tapecard.specs.ExchangeCalls.{export_left, export_call, import_call}
 use Rattle.tapecard.specs.PacketCalls.{packet_change, packet_left}
 use Rattle.card_laws.specs.Exchanges.{Accepted, ExchangeRefusedUntouched, ImportIsChange, CardExportThenImport}
@@ -57,15 +59,11 @@ module _ (state image file : List ℕ) where
   abbrev st : State
   st = decode_state state
 
-  -- a refused import is not told as 0
-  not_zero : (n : ℕ) → reading image file ≡ Refused n → n ≡ 0 → ⊥
-  not_zero n e z = omega (arith, refused_number (fields_of image).size file (fields_of image).capacity 0 n e)
-
   -- a record's bytes after each way: those of a change where the file is taken
   state_after : (P : List ℕ → Type 0) → P (packet_change state) → P state → {x : Left State} → ImportWay image st file x → P (packet_left state x).state
   unfolding packet_left packet_change
   state_after P new old (broken b) = old
-  state_after P new old (refused n g e) = rw (ne_eqb n 0 (not_zero n e)) old
+  state_after P new old (refused reason g e) = rw (not_zero reason) old
   state_after P new old (taken es used g e) = new
 
   -- what holds of the record after a change and of the one given holds of the one left
@@ -76,7 +74,7 @@ module _ (state image file : List ℕ) where
   changed_by : {x : Left State} → ImportWay image st file x → Accepted (encode_answer x.answer) → (packet_left state x).state ≡ packet_change state
   unfolding packet_left packet_change encode_answer
   changed_by (broken b) z = absurd (omega arith)
-  changed_by (refused n g e) z = absurd (not_zero n e z)
+  changed_by (refused reason g e) z = absurd (eqb-false _ _ (not_zero reason) z)
   changed_by (taken es used g e) z = refl
 
 pub import_is_change : ImportIsChange
@@ -162,9 +160,9 @@ export_answered s file (well g l) = answer_alone _ refl
 
 import_answered : (state image file : List ℕ) {x : Left State} → ImportWay image (decode_state state) file x → Bytes (encode_answer x.answer)
 import_answered state image file (broken b) = answer_alone _ refl
-import_answered state image file (refused n g e) =
-    let r = refused_number (fields_of image).size file (fields_of image).capacity 0 n e in
-    answer_alone _ (rw (lt-ltb n 256 (omega arith), ne_eqb n 0 (not_zero state image file n e)) refl)
+import_answered state image file (refused reason g e) =
+    let r = refused_number (fields_of image).size file (fields_of image).capacity 0 reason e in
+    answer_alone _ (rw (lt-ltb (number_of reason) 256 (omega arith), not_zero reason) refl)
 import_answered state image file (taken es used g e) = answer_alone _ refl
 
 pub exchange_stays_bytes : ExchangeStaysBytes
@@ -193,7 +191,7 @@ export_counts s file (well g l) =
 import_counts : (state image file : List ℕ) {x : Left State} → ImportWay image (decode_state state) file x → CountsIn (encode_answer x.answer) x.answer
 unfolding encode_answer
 import_counts state image file (broken b) = refused_counts 2
-import_counts state image file (refused n g e) = refused_counts n
+import_counts state image file (refused reason g e) = refused_counts (number_of reason)
 import_counts state image file (taken es used g e) =
     let x = sound image (fields_of image) (good_header image g) in
     let few = reads_most (fields_of image).size file (fields_of image).capacity 0 in

@@ -15,19 +15,18 @@ use Rattle.opcodes.specs.declared.Command.TheVariants.{Unknown, TestUnitReady, R
 use Rattle.opcodes.specs.declared.Command.TheVariants.{Space, Inquiry, ModeSelect, ModeSense, LoadUnload, Locate, ReadPosition, PreventAllow}
 use Rattle.transfer.specs.declared.Stop.{Stop}
 use Rattle.transfer.specs.declared.Stop.TheVariants.{Full, AtFilemark, AtBadBlock, AtEnd, AtBeginning}
-use Rattle.packet_state.specs.declared.state.Ending.TheVariants.{Good}
+use Rattle.packet_state.specs.Answers.{Good, accepted, refusal}
 use Rattle.packet_state.specs.declared.state.State.{State}
 use Rattle.packet_state.specs.States.{fresh_state, changed_state}
 use Rattle.packet_parts.specs.declared.requests.Request.{Request}
-use Rattle.packet_parts.specs.Answers.{refused, ends}
+use Rattle.packet_parts.specs.Answers.{Left, ends}
 use Rattle.packet_parts.specs.Replies.{reply_ends}
 use Rattle.packet_work.specs.Settings.{load_work, lock_work, speed_work}
 use Rattle.packet_laws.specs.Words.{number_of}
 use Rattle.floppy_parts.specs.declared.tape.Floppy.{Floppy}
-use Rattle.floppy_parts.specs.declared.tape.FloppyOutcome.{FloppyOutcome}
 use Rattle.floppy_parts.specs.declared.tape.Tape.{Tape}
 use Rattle.floppy_parts.specs.Headers.{is_full}
-use Rattle.floppy_parts.specs.Tape.{flags_byte, reset_tape, joined}
+use Rattle.floppy_parts.specs.Tape.{flags_byte}
 use Rattle.floppy.specs.Packet.{floppy_device, floppy_step, mounted}
 use Rattle.floppy.specs.Work.{read_ending, read_ends, read_work, write_ending, write_ends, write_work, tape_work, select_work, work_of}
 use Rattle.floppy_laws.proofs.Leaving.{accepted_leaves}
@@ -35,11 +34,12 @@ use Rattle.packet_record.specs.PacketRecord.{encode_answer}
 use Rattle.floppy_record.specs.FloppyRecord.{decode_floppy, encode_floppy, encode_tape}
 use Rattle.tapecard.specs.FloppyCalls.{floppy_record, floppy_left, floppy_packet_left, floppy_fresh_call, floppy_change_call, floppy_packet_call}
 use Rattle.card_laws.specs.Promises.{Bytes, FitsTape, FloppyStaysBytes}
-use Rattle.card_laws.proofs.BytesKept.{All, bytes_of_lem, count_all, flag_most, next, none}
+use Rattle.card_laws.proofs.ByteLaws.{weight_most}
+use Rattle.card_laws.proofs.BytesKept.{All, bytes_of_lem, count_all, next, none}
 use Rattle.card_laws.proofs.CycleLaws.{decoded_tape_fits}
 use Rattle.card_laws.proofs.FloppyFollowing.{full_sound, reset_fits, tape_left}
 use Rattle.card_laws.proofs.PacketBytes.{Fits, alike, answer_bytes, answer-fits, ending_of_lem, ends_fits, fits, fits_of, low, low_ending, sense_low}
-use Rattle.card_laws.proofs.PacketBytes.{state_all, told_of}
+use Rattle.card_laws.proofs.PacketBytes.{state_all}
 
 -- ---- every number that a packet tells, and both codes of every sense that it leaves, stand in a byte each
 
@@ -56,7 +56,7 @@ unfolding write_ending
 write_low left = simp (ending_of_lem, alike)
 
 work_fits : (c : Command) (s : List ℕ) (h : Header) (st : State) (t : Tape) (q : Request) (buf : List ℕ)
-    → fits (record { answer = (work_of c s h st t q buf).answer; state = (work_of c s h st t q buf).state }) ≡ true
+    → fits (work_of c s h st t q buf).answer (work_of c s h st t q buf).state ≡ true
 unfolding work_of read_work read_ends write_work write_ends reply_ends select_work speed_work tape_work load_work lock_work
 work_fits Unknown s h st t q buf = ends_fits _ _ _ _
 work_fits TestUnitReady s h st t q buf = ends_fits _ _ _ _
@@ -87,7 +87,7 @@ tape_all t f =
     next f.density
     (next f.fill
     (next f.bseg
-    (next {x = flags_byte x} (omega (arith, flag_most x.deleted 0x80, flag_most x.reduced 0x40, flag_most x.formatting 0x20))
+    (next {x = flags_byte x} (omega (arith, weight_most x.deleted 0x80, weight_most x.reduced 0x40, weight_most x.formatting 0x20))
     (count_all 2 t.segtrk
     (count_all 2 t.trks
     (next f.sector (next f.cylinder (next f.head (next zero (next zero (next zero (next zero (next zero none)))))))))))))
@@ -104,7 +104,7 @@ record_bytes_lem state image packet buf a b =
     either Bytes (number_of x ≡ᵇ 0) (encode_floppy x.state) state
     (λ e.
     let w = accepted_leaves image f packet buf (eqb-true (number_of x) 0 e) in
-    floppy_bytes x.state (omega (arith, w.ruled.key)) (sense_low (told_of floppy_device x) e (packet_fits image f packet buf))
+    floppy_bytes x.state (omega (arith, w.ruled.key)) (sense_low x.answer x.state.shared e (packet_fits image f packet buf))
     (tape_left image f packet buf b (decoded_tape_fits state a)))
     (λ e. a)
 
@@ -112,9 +112,7 @@ mount_bytes : (state image : List ℕ) (new : State) → Bytes state
     → Bytes (floppy_left state (mounted image (decode_floppy state) new)).state
 unfolding floppy_left mounted ends
 mount_bytes state image new b =
-    either (λ (o : FloppyOutcome). Bytes (floppy_record state o.answer o.state)) (not (is_full image))
-    (joined (refused (decode_floppy state).shared broken_image) (decode_floppy state).tape) (joined (ends new Good 0 0) (reset_tape (fields_of image).capacity))
-    (λ e. b)
+    either (λ (x : Left Floppy). Bytes (floppy_record state x.answer x.state)) (not (is_full image)) _ _ (λ e. b)
     (λ e.
     let g = full_sound image (not-false _ e) in
     floppy_bytes _ (omega arith) refl (reset_fits (fields_of image).capacity (omega arith)))
@@ -122,10 +120,9 @@ mount_bytes state image new b =
 mount_answer : (state image : List ℕ) (new : State) → Bytes (floppy_left state (mounted image (decode_floppy state) new)).answer
 unfolding floppy_left mounted
 mount_answer state image new =
-    either (λ (o : FloppyOutcome). Bytes (encode_answer o.answer)) (not (is_full image))
-    (joined (refused (decode_floppy state).shared broken_image) (decode_floppy state).tape) (joined (ends new Good 0 0) (reset_tape (fields_of image).capacity))
-    (λ e. answer_bytes (refused (decode_floppy state).shared broken_image) refl)
-    (λ e. answer_bytes (ends new Good 0 0) (ends_fits _ _ _ _))
+    either (λ (x : Left Floppy). Bytes (encode_answer x.answer)) (not (is_full image)) _ _
+    (λ e. answer_bytes (refusal broken_image) new refl)
+    (λ e. answer_bytes (accepted (ends new Good 0 0).answer) (ends new Good 0 0).state (ends_fits _ _ _ _))
 
 pub floppy_stays_bytes : FloppyStaysBytes
 unfolding floppy_fresh_call floppy_change_call floppy_packet_call floppy_packet_left
@@ -137,5 +134,6 @@ floppy_stays_bytes =
       change_answer = λ state image. mount_answer state image (changed_state (decode_floppy state).shared);
       packet = record_bytes_lem;
       answer = λ state image packet buf.
-          answer_bytes (told_of floppy_device (floppy_step image (decode_floppy state) packet buf)) (packet_fits image (decode_floppy state) packet buf);
+          let x = floppy_step image (decode_floppy state) packet buf in
+          answer_bytes x.answer x.state.shared (packet_fits image (decode_floppy state) packet buf);
     }

@@ -2,7 +2,7 @@
 -- Assumes nothing.
 use mathlib.Core.Path.{◌≡◌, refl, sym}
 use mathlib.Core.Bool.{Bool, true, false, not, ◌&&◌}
-use mathlib.Core.List.{List}
+use mathlib.Core.List.{List, []}
 use Prim.Native.Nat.{ℕ, ◌-◌, ◌^◌, ◌<◌, ◌≤◌}
 use native.Mathlib.Nat.{mul-le-mul}
 use native.Mathlib.Omega.{arith}
@@ -27,30 +27,29 @@ use Rattle.transfer.specs.Writing.{block_of, write_from}
 use Rattle.transfer.proofs.MarkedLaws.{marked_few}
 use Rattle.transfer.proofs.ReadLaws.{read_left}
 use Rattle.transfer.proofs.WriteLaws.{lay-left}
-use Rattle.packet_state.specs.declared.state.Ending.{Ending}
-use Rattle.packet_state.specs.declared.state.Ending.TheVariants.{Good}
+use Rattle.packet_state.specs.Answers.{Ending, Good}
 use Rattle.packet_state.specs.declared.state.Outcome.{Outcome}
 use Rattle.packet_state.specs.declared.state.State.{State}
 use Rattle.packet_state.specs.States.{fresh_state, changed_state}
 use Rattle.packet_state.proofs.RecordLaws.{speed_most}
 use Rattle.packet_parts.specs.declared.requests.Request.{Request}
-use Rattle.packet_parts.specs.Answers.{Left, refused, ends}
+use Rattle.packet_parts.specs.Answers.{Left, ends}
 use Rattle.packet_parts.specs.Replies.{reply_ends}
 use Rattle.packet_parts.specs.Requests.{load_bit, request_under}
-use Rattle.packet_parts.specs.Shell.{carried_out}
+use Rattle.packet_parts.specs.Shell.{refuses, carried_out}
 use Rattle.packet_work.specs.Moving.{moves, read_moves}
 use Rattle.packet_work.specs.Settings.{load_work, lock_work}
 use Rattle.packet_laws.specs.Words.{number_of, blocks_of, bytes_of, marked_of}
 use Rattle.packet_laws.proofs.Endings.{sense_of, ends_is}
+use Rattle.packet_laws.proofs.Settling.{told_in, outcome_of}
 use Rattle.packet_laws.proofs.Ways.{Way, cut, broken, unruly, short, ends-early, works, way}
 use Rattle.packet_record.specs.PacketRecord.{encode_answer}
 use Rattle.floppy_parts.specs.declared.tape.Floppy.{Floppy}
-use Rattle.floppy_parts.specs.declared.tape.FloppyOutcome.{FloppyOutcome}
 use Rattle.floppy_parts.specs.declared.tape.Tape.{Tape}
 use Rattle.floppy_parts.specs.Headers.{is_full}
 use Rattle.floppy_parts.specs.Replies.{tape_list}
 use Rattle.floppy_parts.specs.Requests.{floppy_request}
-use Rattle.floppy_parts.specs.Tape.{product, reset_tape, listed_tape, joined}
+use Rattle.floppy_parts.specs.Tape.{product, reset_tape, listed_tape}
 use Rattle.floppy_parts.specs.Settings.{good_tape_list, selected_tape, loaded_tape, tape_after}
 use Rattle.floppy_parts.proofs.FullLaws.{full_image}
 use Rattle.floppy.specs.Packet.{floppy_device, floppy_step, mounted}
@@ -108,7 +107,7 @@ after_fits PreventAllow h t q list l f b = f
 
 -- ---- so do the numbers that a packet tells
 
-record Whole (x : Outcome) : Type 0 where
+record Whole (x : Outcome State) : Type 0 where
   information : x.state.sense.information < 2 ^ 32
   blocks : x.answer.blocks < 2 ^ 32
   bytes : x.answer.bytes < 2 ^ 32
@@ -121,7 +120,7 @@ ended st e blocks bytes i k l = rw ends_is (record { information = i; blocks = k
 plain : (st : State) (bytes : ℕ) → bytes < 2 ^ 32 → Whole (ends st Good 0 bytes)
 plain st bytes l = ended st Good 0 bytes (omega arith) (omega arith) l
 
-select_whole : {h : Header} {st : State} {t : Tape} {list : List ℕ} {tape : Tape} {asked : ℕ} {out : Outcome} → asked < 256
+select_whole : {h : Header} {st : State} {t : Tape} {list : List ℕ} {tape : Tape} {asked : ℕ} {out : Outcome State} → asked < 256
     → Selected h st t list asked out tape → Whole out
 select_whole l (speed-set e g) = plain _ _ (omega arith)
 select_whole l (speed-wrong e) = ended _ _ _ _ (omega arith) (omega arith) (omega arith)
@@ -156,7 +155,7 @@ module _ (s : List ℕ) (h : Header) (st : State) (t : Tape) (q : Request) (buf 
       let k = marked_few s h.kinds (q.length - m.left) st.position in
       record { information = w.information; blocks = w.blocks; bytes = w.bytes; marked = omega arith }
 
-  work_whole : (c : Command) → Whole (record { answer = (work_of c s h st t q buf).answer; state = (work_of c s h st t q buf).state })
+  work_whole : (c : Command) → Whole (outcome_of (work_of c s h st t q buf))
   unfolding work_of read_work read_ends write_work write_ends load_work lock_work reply_ends
   work_whole Unknown = plain _ _ (omega arith)
   work_whole TestUnitReady = plain _ _ (omega arith)
@@ -185,8 +184,8 @@ module _ (s : List ℕ) (h : Header) (st : State) (t : Tape) (q : Request) (buf 
 pub full_sound : (s : List ℕ) → is_full s ≡ true → Sound (fields_of s) (length s)
 full_sound s e = sound s (fields_of s) (good_header s (full_image s e).0)
 
-abbrev told_of : Left Floppy → Outcome
-told_of x = record { answer = x.answer; state = x.state.shared }
+abbrev told_of : Left Floppy → Outcome State
+told_of x = record { answer = told_in x.answer; state = x.state.shared }
 
 module _ (s : List ℕ) (f : Floppy) (packet buf : List ℕ) where
   whole_by : {x : Left Floppy} → Way floppy_device s f packet buf x → Bytes packet → number_of x ≡ 0 → Whole (told_of x)
@@ -254,10 +253,8 @@ mount_follows : (state image : List ℕ) (next : State) → next.position < 2 ^ 
     → decode_floppy (floppy_left state (mounted image (decode_floppy state) next)).state ≡ (mounted image (decode_floppy state) next).state
 unfolding floppy_left mounted ends
 mount_follows state image next p v =
-    either (λ (o : FloppyOutcome). decode_floppy (floppy_record state o.answer o.state) ≡ o.state) (not (is_full image))
-    (joined (refused (decode_floppy state).shared broken_image) (decode_floppy state).tape)
-    (joined (ends next Good 0 0) (reset_tape (fields_of image).capacity))
-    (λ e. refl)
+    either (λ (x : Left Floppy). decode_floppy (floppy_record state x.answer x.state) ≡ x.state) (not (is_full image))
+    (refuses (decode_floppy state) broken_image image []) _ (λ e. refl)
     (λ e.
     let g = full_sound image (not-false _ e) in
     floppy_kept_by_cycle _ (record { position = p; speed = v; information = omega arith }) (reset_fits (fields_of image).capacity (omega arith)))

@@ -7,7 +7,7 @@ use Prim.Native.Nat.{ℕ, suc, ◌+◌}
 use lib.ListN.{length, drop}
 use lib.Seq.{get_or-drop}
 use Rattle.numbers.specs.Counts.{count_bytes}
-use Rattle.packet_state.specs.declared.state.Answer.{Answer}
+use Rattle.packet_state.specs.Answers.{Answer}
 use Rattle.packet_state.specs.declared.state.State.{State}
 use Rattle.packet_state.specs.States.{fresh_state}
 use Rattle.packet_parts.specs.Answers.{Left}
@@ -41,8 +41,8 @@ fresh_bytes s index b =
 -- ---- the promises
 
 -- an answer by itself
-pub answer_alone : (a : Answer) → fits (record { answer = a; state = fresh_state }) ≡ true → Bytes (encode_answer a)
-answer_alone a e = answer_bytes (record { answer = a; state = fresh_state }) e
+pub answer_alone : (a : Answer) → fits a fresh_state ≡ true → Bytes (encode_answer a)
+answer_alone a e = answer_bytes a fresh_state e
 
 make_answer : (image index : List ℕ) → Bytes (index_make_call image index).answer
 unfolding index_make_call made_left

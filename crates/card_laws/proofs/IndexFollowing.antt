@@ -13,7 +13,8 @@ use Rattle.image.specs.Header.{fields_of, keeps_header_rules, broken_image}
 use Rattle.image.proofs.HeaderLaws.{good_header, sound}
 use Rattle.packet_state.specs.declared.state.State.{State}
 use Rattle.packet_state.specs.States.{keeps_record_rules}
-use Rattle.packet_parts.specs.Answers.{Left, refusal, answered, good_status}
+use Rattle.packet_state.specs.Answers.{refusal}
+use Rattle.packet_parts.specs.Answers.{Left, answered, good_status}
 use Rattle.packet_parts.specs.Requests.{packet_length}
 use Rattle.packet_parts.specs.Shell.{refuses, answers_to}
 use Rattle.stream.specs.Packet.{packet_step}

@@ -9,7 +9,7 @@ use borrow.Author.Tests.{eq-eqb, ne_eqb, not-false}
 use lib.ListN.{get_or}
 use Rattle.numbers.specs.Member.{is_in}
 use Rattle.numbers.proofs.MemberLaws.{not_in_parts}
-use Rattle.pulse.specs.declared.calls.Step.{Step}
+use Rattle.pulse.specs.Calls.{Step}
 use Rattle.pulse.specs.declared.drive.Drive.{Drive}
 use Rattle.pulse.specs.Rules.{keeps_rules}
 use Rattle.pulse.specs.Trains.{Sent}

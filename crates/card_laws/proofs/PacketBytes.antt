@@ -1,15 +1,17 @@
 -- What a call of the packet drive leaves of its record, and what it answers, are bytes.
 -- Assumes nothing.
-use Rattle.std.specs.Prelude.{if◌then◌else◌}
+use Rattle.std.specs.Prelude.{if◌then◌else◌, Ok, Err}
 use mathlib.Core.Path.{◌≡◌, refl, ◌∙◌}
 use mathlib.Core.Bool.{Bool, true, false, cond, not, ◌&&◌}
 use mathlib.Core.List.{List, ◌++◌}
 use Prim.Native.Nat.{ℕ, ◌<◌}
 use native.Mathlib.Omega.{arith}
-use borrow.Author.Tests.{eqb-true, ltb-true, not-true}
+use borrow.Author.Tests.{eqb-true, ltb-true}
 use lib.ListN.{length}
 use Rattle.numbers.specs.Choice.{◌<ᵇ◌, ◌≡ᵇ◌}
 use Rattle.numbers.proofs.Cases.{ands, either}
+use Rattle.numbers.proofs.RefusalLaws.{not_zero}
+use Rattle.numbers.specs.Refusals.{number_of as number}
 use Rattle.image.specs.declared.header.Header.{Header}
 use Rattle.image.specs.Header.{fields_of}
 use Rattle.opcodes.specs.declared.Command.{Command}
@@ -20,8 +22,7 @@ use Rattle.transfer.specs.declared.Stop.{Stop}
 use Rattle.transfer.specs.declared.Stop.TheVariants.{Full, AtFilemark, AtBadBlock, AtEnd, AtBeginning}
 use Rattle.packet_state.specs.declared.state.Attention.{Attention}
 use Rattle.packet_state.specs.declared.state.Attention.TheVariants.{Nothing, MediumChanged, Reset}
-use Rattle.packet_state.specs.declared.state.Ending.{Ending}
-use Rattle.packet_state.specs.declared.state.Ending.TheVariants.{Good, Check}
+use Rattle.packet_state.specs.Answers.{Answer, Ending, accepted}
 use Rattle.packet_state.specs.declared.state.Outcome.{Outcome}
 use Rattle.packet_state.specs.declared.state.Sense.{Sense}
 use Rattle.packet_state.specs.declared.state.State.{State}
@@ -41,11 +42,12 @@ use Rattle.stream.specs.Work.{ending_of, locate_work, mark_work, read_ends, read
 use Rattle.stream.specs.Work.{write_ending, write_ends, write_work}
 use Rattle.packet_work.specs.Settings.{load_work, lock_work, speed_work}
 use Rattle.packet_laws.specs.Words.{number_of}
-use Rattle.stream_laws.proofs.Leaving.{outcome_of, accepted_leaves}
+use Rattle.stream_laws.proofs.Leaving.{accepted_leaves}
 use Rattle.packet_record.specs.PacketRecord.{attention_byte, decode_state, encode_answer, encode_state}
 use Rattle.tapecard.specs.PacketCalls.{packet_call, packet_change, packet_fresh, packet_left}
 use Rattle.card_laws.specs.Promises.{Bytes, PacketStaysBytes}
-use Rattle.card_laws.proofs.BytesKept.{All, bytes_of_lem, count_all, flag_most, next, none}
+use Rattle.card_laws.proofs.ByteLaws.{weight_most}
+use Rattle.card_laws.proofs.BytesKept.{All, bytes_of_lem, count_all, next, none}
 
 -- ---- every number that a packet tells, and both codes of every sense that it leaves, stand in a byte each
 
@@ -53,8 +55,12 @@ abbrev pub low : Sense → Bool
 low x = (x.asc <ᵇ 256) && (x.ascq <ᵇ 256)
 
 -- the record is left only where the packet is not refused
-abbrev pub fits : Outcome → Bool
-fits x = (x.answer.number <ᵇ 256) && (x.answer.status <ᵇ 256) && (if x.answer.number ≡ᵇ 0 then low x.state.sense else true)
+abbrev pub fits : Answer → State → Bool
+fits a st = (a.number <ᵇ 256) && (a.status <ᵇ 256) && (if a.number ≡ᵇ 0 then low st.sense else true)
+
+-- a packet that is not refused
+abbrev pub fits_out : Outcome State → Bool
+fits_out x = fits (accepted x.answer) x.state
 
 pub alike : (b : Bool) → cond b true true ≡ true
 alike true = refl
@@ -62,7 +68,7 @@ alike false = refl
 
 -- before the work
 abbrev low_verdict : Verdict → Bool
-low_verdict (Refuses number) = (number <ᵇ 256) && not (number ≡ᵇ 0)
+low_verdict (Refuses reason) = number reason <ᵇ 256
 low_verdict (Ends x) = low x
 low_verdict Works = true
 
@@ -81,8 +87,8 @@ verdict_low a protected st room = simp (verdict_of, attention_low st.attention, 
 
 -- the work
 abbrev pub low_ending : Ending → Bool
-low_ending Good = true
-low_ending (Check x) = low x
+low_ending (Ok done) = true
+low_ending (Err x) = low x
 
 pub ending_of_lem : (b : Bool) (x y : Ending) → low_ending (cond b x y) ≡ cond b (low_ending x) (low_ending y)
 ending_of_lem true x y = refl
@@ -100,16 +106,17 @@ write_low : (h : Header) (asked : ℕ) (m : Moved) → low_ending (write_ending 
 unfolding write_ending
 write_low h asked m = simp (ending_of_lem, alike)
 
-pub ends_fits : (st : State) (e : Ending) (blocks bytes : ℕ) → fits (ends st e blocks bytes) ≡ low_ending e
+pub ends_fits : (st : State) (e : Ending) (blocks bytes : ℕ) → fits_out (ends st e blocks bytes) ≡ low_ending e
 unfolding ends
-ends_fits st Good blocks bytes = refl
-ends_fits st (Check x) blocks bytes = refl
+ends_fits st (Ok done) blocks bytes = refl
+ends_fits st (Err x) blocks bytes = refl
 
-pub fits_of : (b : Bool) (x y : Outcome) → fits (cond b x y) ≡ cond b (fits x) (fits y)
+pub fits_of : (b : Bool) (x y : Outcome State) → fits_out (cond b x y) ≡ cond b (fits_out x) (fits_out y)
 fits_of true x y = refl
 fits_of false x y = refl
 
-work_fits : (c : Command) (s : List ℕ) (h : Header) (st : State) (q : Request) (buf : List ℕ) → fits (outcome_of (work_of c s h st q buf)) ≡ true
+work_fits : (c : Command) (s : List ℕ) (h : Header) (st : State) (q : Request) (buf : List ℕ)
+    → fits (work_of c s h st q buf).answer (work_of c s h st q buf).state ≡ true
 unfolding work_of read_work read_ends write_work write_ends mark_work space_work reply_ends select_work speed_work load_work lock_work locate_work
 work_fits Unknown s h st q buf = ends_fits _ _ _ _
 work_fits TestUnitReady s h st q buf = ends_fits _ _ _ _
@@ -129,20 +136,14 @@ work_fits PreventAllow s h st q buf = ends_fits _ _ _ _
 
 -- the whole packet, of any device that keeps the record it is given
 module _ {R : Type 0} (d : Device R) where
-  abbrev pub told_of : Left R → Outcome
-  told_of x = record { answer = x.answer; state = d.shared x.state }
-
   abbrev pub Fits : Left R → Type 0
-  Fits x = fits (told_of x) ≡ true
+  Fits x = fits x.answer (d.shared x.state) ≡ true
 
   module _ (shares : (st : R) (next : State) → d.shared (d.with_shared st next) ≡ next)
       (works : (s : List ℕ) (h : Header) (st : R) (q : Request) (buf : List ℕ) → Fits (d.work s h st q buf)) where
     carried-fits : (v : Verdict) (s : List ℕ) (h : Header) (st : R) (q : Request) (buf : List ℕ) → low_verdict v ≡ true → Fits (carried_out d v s h st q buf)
     unfolding carried_out
-    carried-fits (Refuses number) s h st q buf e =
-        let l : (number <ᵇ 256) ≡ true = search ands in
-        let n : (number ≡ᵇ 0) ≡ false = not-true _ (search ands) in
-        rw (l, n)
+    carried-fits (Refuses reason) s h st q buf e = rw (e, not_zero reason)
     carried-fits (Ends x) s h st q buf e = rw (shares st (ended_before (d.shared st) x)) e
     carried-fits Works s h st q buf e = works s h st q buf
 
@@ -172,34 +173,32 @@ state_all st key l a =
     let asc = ltb-true x.asc 256 (search ands) in
     let ascq = ltb-true x.ascq 256 (search ands) in
     count_all 4 st.position
-    (next (omega (arith, flag_most st.loaded 1, flag_most st.locked 2))
+    (next (omega (arith, weight_most st.loaded 1, weight_most st.locked 2))
     (next (attention_byte_lem st.attention)
     (count_all 2 st.speed
     (next key
     (next asc
     (next ascq
-    (next (omega (arith, flag_most x.valid 1, flag_most x.eom 2, flag_most x.filemark 4)) (count_all 4 x.information a))))))))
+    (next (omega (arith, weight_most x.valid 1, weight_most x.eom 2, weight_most x.filemark 4)) (count_all 4 x.information a))))))))
 
 state_bytes : (st : State) → st.sense.key < 256 → low st.sense ≡ true → Bytes (encode_state st)
 unfolding encode_state
 state_bytes st key l = bytes_of_lem (state_all st key l none)
 
-pub sense_low : (x : Outcome) → (x.answer.number ≡ᵇ 0) ≡ true → fits x ≡ true → low x.state.sense ≡ true
-sense_low x e f =
-    let g : (if x.answer.number ≡ᵇ 0 then low x.state.sense else true) ≡ true = search ands in
+pub sense_low : (a : Answer) (st : State) → (a.number ≡ᵇ 0) ≡ true → fits a st ≡ true → low st.sense ≡ true
+sense_low a st e f =
+    let g : (if a.number ≡ᵇ 0 then low st.sense else true) ≡ true = search ands in
     rw e at g
 
-pub answer_bytes : (x : Outcome) → fits x ≡ true → Bytes (encode_answer x.answer)
+pub answer_bytes : (a : Answer) (st : State) → fits a st ≡ true → Bytes (encode_answer a)
 unfolding encode_answer
-answer_bytes x e =
-    let number = ltb-true x.answer.number 256 (search ands) in
-    let status = ltb-true x.answer.status 256 (search ands) in
+answer_bytes a st e =
+    let told = ltb-true a.number 256 (search ands) in
+    let status = ltb-true a.status 256 (search ands) in
     let zero : 0 < 256 = omega arith in
     bytes_of_lem
-    (next number
-    (next status
-    (next zero
-    (next zero (count_all 4 x.answer.blocks (count_all 4 x.answer.bytes (count_all 4 x.answer.marked none)))))))
+    (next told
+    (next status (next zero (next zero (count_all 4 a.blocks (count_all 4 a.bytes (count_all 4 a.marked none)))))))
 
 -- ---- the promises
 
@@ -211,7 +210,7 @@ record_bytes_lem state image packet buf b =
     either Bytes (number_of x ≡ᵇ 0) (encode_state x.state) state
     (λ e.
     let w = accepted_leaves image st packet buf (eqb-true (number_of x) 0 e) in
-    state_bytes x.state (omega (arith, w.accepted.ruly.key)) (sense_low (outcome_of x) e (packet_fits image st packet buf)))
+    state_bytes x.state (omega (arith, w.accepted.ruly.key)) (sense_low x.answer x.state e (packet_fits image st packet buf)))
     (λ e. b)
 
 pub packet_stays_bytes : PacketStaysBytes
@@ -222,5 +221,6 @@ packet_stays_bytes =
       change = λ state. state_bytes (changed_state (decode_state state)) (omega arith) refl;
       packet = record_bytes_lem;
       answer = λ state image packet buf.
-          answer_bytes (outcome_of (packet_step image (decode_state state) packet buf)) (packet_fits image (decode_state state) packet buf);
+          let x = packet_step image (decode_state state) packet buf in
+          answer_bytes x.answer x.state (packet_fits image (decode_state state) packet buf);
     }

@@ -13,9 +13,8 @@ use Rattle.numbers.specs.Choice.{◌≡ᵇ◌}
 use Rattle.numbers.specs.Counts.{count_at}
 use Rattle.numbers.proofs.Cases.{either}
 use Rattle.pulse_parts.specs.declared.cartridge.Cartridge.{Cartridge}
-use Rattle.pulse.specs.declared.calls.Waited.{Waited}
 use Rattle.pulse.specs.declared.drive.Drive.{Drive}
-use Rattle.pulse.specs.Calls.{not_refused, train_call, tick_call, insert_call, remove_call, wait_call}
+use Rattle.pulse.specs.Calls.{Waited, not_refused, train_call, tick_call, insert_call, remove_call, wait_call}
 use Rattle.pulse.specs.Drives.{is_ready, power_on}
 use Rattle.pulse.specs.Events.{steps_to}
 use Rattle.pulse.specs.Motions.{ticked}
@@ -29,8 +28,8 @@ use Rattle.pulse_laws.proofs.Kept.{rules_kept}
 use Rattle.pulse_record.specs.PulseRecord.{decode_drive, encode_drive, encode_told, described_cartridge, described_place}
 use Rattle.tapecard.specs.PulseCalls.{pulse_left, pulse_power_on, pulse_train, pulse_tick, pulse_insert, pulse_remove, pulse_wait, pulse_trains}
 use Rattle.card_laws.specs.Promises.{Bytes, FitsBytes, PulseFollows, StaysBytes}
-use Rattle.card_laws.proofs.BytesKept.{encoded_bytes, flag_most}
-use Rattle.card_laws.proofs.ByteLaws.{four_back}
+use Rattle.card_laws.proofs.BytesKept.{encoded_bytes}
+use Rattle.card_laws.proofs.ByteLaws.{four_back, weight_most}
 use Rattle.card_laws.proofs.CycleLaws.{drive_kept_by_cycle, decoded_drive_fits}
 use Rattle.card_laws.proofs.DriveFits.{power_on_fits, train_fits, tick_fits, insert_fits, remove_fits, wait_fits, trains_fits}
 
@@ -109,7 +108,7 @@ bytes_left state number level ticks d b x =
 levels_bytes : (d : Drive) (ns rest : List ℕ) → Bytes rest → Bytes (levels_of d ns ++ rest)
 unfolding levels_of
 levels_bytes d [] rest b i = b i
-levels_bytes d (n ∷ ns) rest b zero = omega (arith, flag_most (train_step d n).level 1)
+levels_bytes d (n ∷ ns) rest b zero = omega (arith, weight_most (train_step d n).level 1)
 levels_bytes d (n ∷ ns) rest b (suc i) = levels_bytes (train_step d n) ns rest b i
 
 trains_levels : (d : Drive) (counts levels : List ℕ) → Bytes levels → Bytes (trains_call d counts levels).levels

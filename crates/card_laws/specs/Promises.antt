@@ -1,10 +1,9 @@
 -- What the calls promise beyond their definitions; proofs/ keeps each, under its name.
 -- Assumes nothing.
-use Rattle.std.specs.Prelude.{◌≡◌, true, false, List, map, ℕ, ◌^◌, ◌<◌, ◌≤◌, get_or}
-use Rattle.packet_state.specs.declared.state.Answer.{Answer}
+use Rattle.std.specs.Prelude.{◌≡◌, true, false, List, map, ℕ, ◌^◌, ◌<◌, ◌≤◌, get_or, Option, Some, None}
+use Rattle.packet_state.specs.Answers.{Answer}
 use Rattle.packet_state.specs.declared.state.State.{State}
 use Rattle.pulse_codes.specs.declared.arguments.Waiting.{Waiting}
-use Rattle.pulse_codes.specs.declared.arguments.Waiting.TheVariants.{Nothing, For}
 use Rattle.pulse.specs.declared.drive.Drive.{Drive}
 use Rattle.pulse.specs.Calls.{train_call, tick_call, insert_call, remove_call, wait_call}
 use Rattle.pulse.specs.Drives.{power_on}
@@ -116,9 +115,9 @@ abbrev pub DecodedTapeFits : Type 0
 DecodedTapeFits = (s : List ℕ) → Bytes s → FitsTape (decode_tape s)
 
 -- "the value is read modulo 16^held"
-abbrev pub HeldAlone : Waiting → Type 0
-HeldAlone Nothing = Unit {0}
-HeldAlone (For code held value) = value < 16 ^ held
+abbrev pub HeldAlone : Option Waiting → Type 0
+HeldAlone None = Unit {0}
+HeldAlone (Some w) = w.value < 16 ^ w.held
 
 -- what the rules leave open: numbers fit their bytes, no bits where no report is open, no nibble beyond those held
 pub record FitsBytes (d : Drive) : Type 0 where

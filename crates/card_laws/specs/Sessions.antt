@@ -1,7 +1,7 @@
 -- Calls of the pulse drive one after the other, on one record's bytes.
 -- Assumes nothing.
 use Rattle.std.specs.Prelude.{ℕ, zero, suc, List, [], ◌∷◌}
-use Rattle.pulse.specs.declared.calls.Step.{Step}
+use Rattle.pulse.specs.Calls.{Step}
 use Rattle.pulse_record.specs.PulseRecord.{encode_told}
 use Rattle.tapecard.specs.PulseCalls.{pulse_train, pulse_tick}
 

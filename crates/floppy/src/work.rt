@@ -25,7 +25,7 @@ use transfer::Stop;
 use transfer::reading::read_blocks;
 use transfer::writing::write_blocks;
 
-// ---- 08h, 0Ah
+// ---- 08h, 0Ah: end, endings and the width of the count are this device's; the runs and what ends a packet are the stream device's too
 
 // 02, A1: "Its residue on an unreadable block leaves out the block in error", and a filemark "counts as unreadable". "W plays no part": no EOM.
 #[tactic(auto, unfolding(crate::specs::Work::read_ending))]

@@ -61,6 +61,7 @@ fn put_kind(image: &mut [u8], place: usize, kind: Kind)
     image[place] = kind as u8;
 }
 
+// What these ask of a header is what a good one gives (`Sound`); they take any, so each says it.
 impl Header {
     fn kind_place(self, i: u32) -> usize
         ensures { result ≡ self.kinds + i }

@@ -1,22 +1,23 @@
 -- The ways of `keep`: what a packet leaves, and the index beside it.
 -- Assumes nothing.
-use Rattle.std.specs.Prelude.{Some, Result, Err}
+use Rattle.std.specs.Prelude.{Some, Result, Ok, Err}
 use mathlib.Core.Path.{◌≡◌, refl, sym, ap, ◌∙◌}
 use mathlib.Core.Bool.{Bool, true, false, ◌&&◌, false≢true}
 use mathlib.Core.List.{List}
-use Prim.Native.Nat.{ℕ, ◌≤◌}
+use Prim.Native.Nat.{ℕ, ◌+◌, ◌^◌, ◌≤◌, ◌<◌}
+use native.Mathlib.Nat.{le_refl}
 use native.Mathlib.Omega.{arith}
-use borrow.Author.Tests.{eqb-true, eqb-false, leb-true, leb-false}
-use lib.Dec.{eqb, leb}
+use borrow.Author.Tests.{eqb-true, leb-true, leb-false}
+use lib.Dec.{leb}
 use lib.ListN.{length}
 use Rattle.numbers.specs.Choice.{◌≡ᵇ◌}
-use Rattle.numbers.proofs.Cases.{and_l, and_r, test}
+use Rattle.numbers.proofs.Cases.{and_l, and_r}
 use Rattle.numbers.proofs.SameLaws.{same_of}
 use Rattle.numbers.specs.declared.refusals.Refusal.{Refusal}
 use Rattle.image.specs.declared.header.Header.{Header}
 use Rattle.image.specs.Elements.{kind_at}
 use Rattle.image.specs.Header.{header_of, with_recorded}
-use Rattle.image.proofs.HeaderLaws.{fields_are, keeps_of}
+use Rattle.image.proofs.HeaderLaws.{fields_are, keeps_of, sound}
 use Rattle.opcodes.specs.declared.Command.{Command}
 use Rattle.opcodes.specs.declared.Command.TheVariants.{Unknown, TestUnitReady, Rewind, RequestSense, Read, Write, WriteFilemarks, Space, Inquiry}
 use Rattle.opcodes.specs.declared.Command.TheVariants.{ModeSelect, ModeSense, LoadUnload, Locate, ReadPosition, PreventAllow}
@@ -36,7 +37,6 @@ use Rattle.packet_laws.specs.Words.{number_of, blocks_of, Passes}
 use Rattle.packet_laws.proofs.Ways.{step_passed}
 use Rattle.stream_laws.specs.Words.{stores_on}
 use Rattle.stream_laws.proofs.Leaving.{accepted_leaves}
-use Rattle.stream_laws.proofs.Refusals.{refused_keeps}
 use Rattle.stream_laws.proofs.Storing.{none_stored}
 use Rattle.index.specs.Commands.{is_space, is_work, by_entries}
 use Rattle.index.specs.Entries.{fresh_index, is_fresh}
@@ -95,8 +95,9 @@ module _ (s : List ℕ) (h : Header) (index : List ℕ) (st : State) (packet buf
       ap (λ (y : Left State). fresh_index y.image index) (sym e) ∙ ap (λ (t : List ℕ). fresh_index t index) i ∙ fresh_stays s index b.fresh in
       ap (λ (y : Left State). indexed y index) e ∙ ap (λ (t : List ℕ). indexed (packet_step s st packet buf) t) (sym z)
 
-  pub by_index : (q : Request) (v : Verdict) (a : Bool) (moved : Moved) (r : Outcome State) → q ≡ request_of packet → v ≡ found_by stream_device h st q (length buf)
-      → a ≡ by_entries v q → a ≡ true → moved ≡ run_by_entries index h st.position q.count → r ≡ space_ends h st moved
+  pub by_index : (q : Request) (v : Verdict) (a : Bool) (moved : Moved) (r : Outcome State) → q ≡ request_of packet
+      → v ≡ found_by stream_device h st q (length buf) → a ≡ by_entries v q → a ≡ true
+      → moved ≡ run_by_entries index h st.position q.count → r ≡ space_ends h st moved
       → indexed (done r s buf) index ≡ afresh index (packet_step s st packet buf)
   unfolding carried_out
   by_index q v a moved r e f g t m o =
@@ -119,68 +120,86 @@ module _ (s : List ℕ) (h : Header) (index : List ℕ) (st : State) (packet buf
       kept_image (left st (Err r) s' b') f
       (ap (λ (x : Left State). x.image) f ∙ none_stored s st packet buf (sym (ap (λ (x : Left State). blocks_of x) f)))
 
-  -- a packet that counts none, or whose command does not store, leaves the image
-  pub not_stored : (q : Request) (a : Bool) (r : Outcome State) (s' b' : List ℕ) → q ≡ request_of packet → done r s' b' ≡ packet_step s st packet buf
-      → a ≡ stores_on q.command → (a && leb 1 r.answer.blocks) ≡ false
-      → indexed (done r s' b') index ≡ afresh index (packet_step s st packet buf)
-  not_stored q a r s' b' e f g t = kept_image (done r s' b') f (ap (λ (x : Left State). x.image) f ∙ by a (sym g) t)
-    where
-      x : Left State
-      x = packet_step s st packet buf
-
-      by : (c : Bool) → stores_on q.command ≡ c → (c && leb 1 r.answer.blocks) ≡ false → x.image ≡ s
-      by false u v =
-          test (eqb (number_of x) 0)
-          (λ n. (accepted_leaves s st packet buf (eqb-true (number_of x) 0 n)).no_store (rw (← e) u))
-          (λ n. (refused_keeps s st packet buf (eqb-false (number_of x) 0 n)).image_kept)
-      by true u v =
-          none_stored s st packet buf
-          (omega (arith, leb-false 1 r.answer.blocks v, ap (λ (y : Left State). blocks_of y) f))
-
-  -- a store
-  pub record Stored (r : Outcome State) (t : List ℕ) : Type 0 where
-    pub header : header_of t ≡ Some (with_recorded h r.state.position)
-    pub reached : st.position ≤ r.state.position
-    pub index-left : rewritten t h st.position r.state.position index ≡ fresh_index t index
-    pub size : length t ≡ length s
-
-  pub stored : (q : Request) (a : Bool) (r : Outcome State) (s' b' : List ℕ) → q ≡ request_of packet → done r s' b' ≡ packet_step s st packet buf
-      → a ≡ stores_on q.command → (a && leb 1 r.answer.blocks) ≡ true → Stored r s'
-  stored q a r s' b' e f g t =
-      let x = packet_step s st packet buf in
-      let d : stores_on (request_of packet).command ≡ true = rw (← e) (sym g ∙ and_l a (leb 1 r.answer.blocks) t) in
-      let n : 1 ≤ blocks_of x = omega (arith, leb-true 1 r.answer.blocks (and_r a (leb 1 r.answer.blocks) t), ap (λ (y : Left State). blocks_of y) f) in
-      let z : number_of x ≡ 0 =
-      test (eqb (number_of x) 0) (λ m. eqb-true (number_of x) 0 m)
-      (λ m. absurd (omega (arith, n, (refused_keeps s st packet buf (eqb-false (number_of x) 0 m)).no_blocks))) in
-      let w = accepted_leaves s st packet buf z in
-      let p = ap (λ (y : Left State). y.state.position) f in
-      let u = w.new_u d n ∙ sym p in
-      let i = ap (λ (y : Left State). y.image) f in
-      let l : header_of s' ≡ Some (with_recorded h r.state.position) =
-      ap header_of i ∙ w.header ∙ ap (λ (k : Header). Some (with_recorded k w.u)) (fields_are s h b.header) ∙ ap (λ (k : ℕ). Some (with_recorded h k)) u in
-      let m : st.position ≤ r.state.position = omega (arith, w.reached, u) in
-      record {
-        header = l;
-        reached = m;
-        index-left =
-            rewritten_fresh s s' h st.position r.state.position index b.header l b.fresh stands m
-            (λ j k. ap (λ (y : List ℕ). kind_at y h.kinds j) i ∙ rw (fields_are s h b.header) at (w.below j k).kind);
-        size = ap (λ (y : List ℕ). length y) i ∙ w.image_length;
-      }
-
-  pub rewrote : (r : Outcome State) (s' b' index' : List ℕ) → done r s' b' ≡ packet_step s st packet buf → Stored r s'
-      → index' ≡ rewritten s' h st.position r.state.position index
-      → indexed (done r s' b') index' ≡ afresh index (packet_step s st packet buf)
-  rewrote r s' b' index' f g e =
-      ap (λ (t : List ℕ). indexed (done r s' b') t) (e ∙ g.index-left) ∙ ap (λ (y : Left State). afresh index y) f
-
   -- what halving needs
   pub first_at : (p : ℕ) → p ≤ h.recorded → BelowFirst index p h.capacity
   first_at p l = below_first _ _ _ _ _ _ _ _ (fresh_parted s h p index b.header b.fresh l)
 
-  pub few_at : (p : ℕ) → p ≤ h.recorded → entries_below index p h.capacity ≤ p
-  few_at p l =
-      let e = below_are _ _ _ _ _ _ _ _ (fresh_parted s h p index b.header b.fresh l) in
-      let f = marks_few s h.kinds p 0 in
+  pub first_here : BelowFirst index st.position h.capacity
+  first_here = first_at st.position stands
+
+  pub first_end : BelowFirst index h.recorded h.capacity
+  first_end = first_at h.recorded (le_refl h.recorded)
+
+  pub few_here : entries_below index st.position h.capacity ≤ st.position
+  few_here =
+      let e = below_are _ _ _ _ _ _ _ _ (fresh_parted s h st.position index b.header b.fresh stands) in
+      let f = marks_few s h.kinds st.position 0 in
       omega arith
+
+  pub run_fits : (n : ℕ) → n < 2 ^ 24 → (st.position ≤ h.recorded) × (h.recorded ≤ h.capacity) × (h.capacity ≤ 65535) × (n < 2 ^ 24)
+  run_fits n l = let g = sound s h b.header in omega (arith, stands)
+
+  pub warning_fits : h.warning ≤ h.capacity
+  warning_fits = (sound s h b.header).warning_within
+
+  module _ (q : Request) (a : Bool) (x : Result (Outcome State) Refusal) (r : Outcome State) (s' b' : List ℕ) (e : q ≡ request_of packet)
+      (o : x ≡ Ok r) (k : left st x s' b' ≡ packet_step s st packet buf) (g : a ≡ stores_on q.command) where
+    went : done r s' b' ≡ packet_step s st packet buf
+    went = rw o at k
+
+    -- a packet that counts none, or whose command does not store, leaves the image
+    pub not_stored : (a && leb 1 r.answer.blocks) ≡ false → indexed (done r s' b') index ≡ afresh index (packet_step s st packet buf)
+    not_stored t = kept_image (done r s' b') went (ap (λ (y : Left State). y.image) went ∙ by a (sym g) t)
+      where
+        left_is : Left State
+        left_is = packet_step s st packet buf
+
+        by : (c : Bool) → stores_on q.command ≡ c → (c && leb 1 r.answer.blocks) ≡ false → left_is.image ≡ s
+        by false u v =
+            (accepted_leaves s st packet buf (ap (λ (y : Left State). number_of y) (sym went))).no_store (rw (← e) u)
+        by true u v =
+            none_stored s st packet buf
+            (omega (arith, leb-false 1 r.answer.blocks v, ap (λ (y : Left State). blocks_of y) went))
+
+    module _ (t : (a && leb 1 r.answer.blocks) ≡ true) where
+      -- a store
+      record Stored : Type 0 where
+        header : header_of s' ≡ Some (with_recorded h r.state.position)
+        reached : st.position ≤ r.state.position
+        index-left : rewritten s' h st.position r.state.position index ≡ fresh_index s' index
+        size : length s' ≡ length s
+
+      stored : Stored
+      stored =
+          let x = packet_step s st packet buf in
+          let d : stores_on (request_of packet).command ≡ true = rw (← e) (sym g ∙ and_l a (leb 1 r.answer.blocks) t) in
+          let n : 1 ≤ blocks_of x =
+          omega (arith, leb-true 1 r.answer.blocks (and_r a (leb 1 r.answer.blocks) t), ap (λ (y : Left State). blocks_of y) went) in
+          let z : number_of x ≡ 0 = ap (λ (y : Left State). number_of y) (sym went) in
+          let w = accepted_leaves s st packet buf z in
+          let u = w.new_u d n ∙ sym (ap (λ (y : Left State). y.state.position) went) in
+          let i = ap (λ (y : Left State). y.image) went in
+          let l : header_of s' ≡ Some (with_recorded h r.state.position) =
+          ap header_of i ∙ w.header ∙ ap (λ (k : Header). Some (with_recorded k w.u)) (fields_are s h b.header) ∙ ap (λ (k : ℕ). Some (with_recorded h k)) u in
+          let m : st.position ≤ r.state.position = omega (arith, w.reached, u) in
+          record {
+            header = l;
+            reached = m;
+            index-left =
+                rewritten_fresh s s' h st.position r.state.position index b.header l b.fresh stands m
+                (λ j k. ap (λ (y : List ℕ). kind_at y h.kinds j) i ∙ rw (fields_are s h b.header) at (w.below j k).kind);
+            size = ap (λ (y : List ℕ). length y) i ∙ w.image_length;
+          }
+
+      pub rewrite_fits : (st.position ≤ r.state.position) × (r.state.position ≤ h.capacity) × (h.capacity ≤ 65535) × (h.kinds + h.capacity ≤ length s')
+      rewrite_fits =
+          let g = sound s h b.header in
+          let w = sound s' _ stored.header in
+          omega (arith, stored.reached, stored.size, w.recorded_within, g.blocks_after, g.all_within)
+
+      pub rewrote : (index' : List ℕ) → index' ≡ rewritten s' h st.position r.state.position index
+          → indexed (done r s' b') index' ≡ afresh index (packet_step s st packet buf)
+      rewrote index' f =
+          ap (λ (t : List ℕ). indexed (done r s' b') t) (f ∙ stored.index-left) ∙ ap (λ (y : Left State). afresh index y) went
+
+pub ruleset keep_ways = (by_index, refused, few_here, run_fits, warning_fits, not_stored, rewrite_fits)

@@ -6,7 +6,7 @@ use mathlib.Core.Bool.{Bool, true, false, ◌&&◌, true≢false}
 use mathlib.Core.List.{List, [], ◌∷◌, ◌++◌}
 use Prim.Native.Nat.{ℕ, zero, suc, ◌+◌, ◌*◌, ◌-◌, ◌<◌, ◌≤◌}
 use native.Mathlib.Omega.{arith}
-use borrow.Author.Tests.{lt-ltb, le-ltb, ltb-true, ltb-false, leb-true, leb-false, eq-eqb, eqb-true, eqb-false}
+use borrow.Author.Tests.{lt-ltb, le-ltb, ltb-true, leb-true, leb-false, eq-eqb, eqb-true, eqb-false}
 use lib.Dec.{eqb, ltb, leb}
 use lib.ListN.{length, get_or, replicate}
 use Rattle.numbers.specs.Counts.{put_count, count_bytes}
@@ -19,7 +19,7 @@ use Rattle.image.specs.Elements.{is_filemark, kind_at}
 use Rattle.index.specs.Checking.{holds_entries, compared_at, compared_with, are_blank}
 use Rattle.index.specs.Entries.{marks_from, no_filemark, entry_bytes}
 use Rattle.index.specs.Rewriting.{entries_put}
-use Rattle.index.specs.Spacing.{entry_at, BelowFirst, AllBelow, entries_below}
+use Rattle.index.specs.Spacing.{entry_at, AllBelow, entries_below}
 use Rattle.index.proofs.EntryLaws.{entries_length, entries_append}
 use Rattle.index.proofs.MarkLaws.{with_place, marks_none, marks_first}
 
@@ -54,31 +54,6 @@ module _ (index : List ℕ) (p : ℕ) where
       let m = leb-false k n t in
       let w = parts_count n n (omega arith) (λ i x. b i (omega arith)) (λ i x y. absurd (omega arith)) in
       rw (entry_counts n (b n (omega arith))) (omega (arith, w)))
-
-  module _ (n low high : ℕ) (first : BelowFirst index p n) (g : Halved index p n low high) where
-    pub halve-on : (m : ℕ) → m < high → entry_at index m < p → Halved index p n (m + 1) high
-    halve-on m l e =
-        record {
-          ordered = omega arith;
-          within = g.within;
-          below = λ i x. first i m (omega arith) (omega (arith, g.within)) e;
-          above = g.above;
-        }
-
-    pub halve-back : (m : ℕ) → low ≤ m → m < high → p ≤ entry_at index m → Halved index p n low m
-    halve-back m k l e =
-        record {
-          ordered = k;
-          within = omega (arith, g.within);
-          below = g.below;
-          above = λ i x y. test (ltb (entry_at index i) p)
-              (λ t. absurd (omega (arith, first m i x y (ltb-true (entry_at index i) p t))))
-              (λ t. ltb-false (entry_at index i) p t);
-        }
-
-  pub halved_start : (n : ℕ) → Halved index p n 0 n
-  halved_start n =
-      record { ordered = omega arith; within = omega arith; below = λ i x. absurd (omega arith); above = λ i x y. absurd (omega arith) }
 
   pub halved_done : (n low high : ℕ) → Halved index p n low high → high ≤ low → low ≡ entries_below index p n
   halved_done n low high g l =
@@ -196,10 +171,6 @@ put_both index mid new marks first last n l e a b =
     ∙ ap (λ (i : ℕ). over index (4 * first) (entry_bytes (marks ++ replicate (last - i) no_filemark))) e
 
 -- ---- entries compared
-
-and_true : (a : Bool) → a ≡ (a && true)
-and_true true = refl
-and_true false = refl
 
 and_assoc : (a b c : Bool) → (a && (b && c)) ≡ ((a && b) && c)
 and_assoc true b c = refl

@@ -9,6 +9,7 @@ ghost use Rattle.index.specs.Rewriting.{entries_put};
 use image::header::Header;
 use numbers::counts::{count4, put_count4};
 
+// 02, A4: bytes that a host reads, so no None.
 const NO_FILEMARK: u32 = 0xffffffff;
 
 pub fn entry_at(index: &[u8], j: u32) -> u32
@@ -52,7 +53,8 @@ fn put_entry(index: &mut [u8], n: u32, p: u32, mark: bool) -> u32
     n
 }
 
-// The filemarks from place p to the end become the entries from `first` on; the answer is the entry after the last.
+// The filemarks from place p to the end become the entries from `first` on; the answer is the entry after the last. No loop is shared with the comparison,
+// which stores nothing and ends at the first difference.
 fn put_marks(image: &[u8], h: Header, p: u32, end: u32, index: &mut [u8], first: u32) -> u32
     requires p_le_end { (p ≤ end) × (h.kinds + end ≤ length image.now) }
     requires first_le_p { (first ≤ p) × (end ≤ 65535) × (4 * end ≤ length index.old) }

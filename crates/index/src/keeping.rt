@@ -32,7 +32,7 @@ fn rewrite(image: &[u8], h: Header, index: &mut [u8], p: u32, end: u32)
     write_entries(image, h, p, end, index, first, last);
 }
 
-#[tactic(auto, using(crate::proofs::KeepLaws::refused))]
+#[tactic(auto, using(crate::proofs::KeepLaws::keep_ways))]
 pub fn keep(
     image: &mut [u8],
     h: Header,

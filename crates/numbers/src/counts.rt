@@ -3,6 +3,8 @@
 ghost use Rattle.std.specs.Prelude.{◌≡◌, ◌+◌, ◌*◌, ◌/◌, ◌%◌, ◌^◌, ◌<◌, ◌≤◌, length};
 ghost use Rattle.numbers.specs.Counts.{count_at, put_count};
 
+// Each width is a function of its own: it gives a type of its own, and 02, A9 has the next width made of the one below.
+
 // ---- two bytes joined, and split again
 
 pub fn pair(high: u8, low: u8) -> u16

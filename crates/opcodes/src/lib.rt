@@ -6,7 +6,7 @@ ghost use Rattle.opcodes.specs.Commands.{stream_command, floppy_command, command
 
 #[derive(Clone, Copy, PartialEq, Eq)]
 pub enum Command {
-    Unknown,
+    Unknown, // a class too, not None: 01's table has one for each first byte
     TestUnitReady, // 00h
     Rewind, // 01h
     RequestSense, // 03h
@@ -23,6 +23,7 @@ pub enum Command {
     PreventAllow, // 1Eh
 }
 
+// 01 asks for tables of classes, and so for numbers; each device has its own, and `From<u8>` is what the two share.
 const STREAM_CLASSES: [u8; 256] = [
     1, 2, 0, 3, 0, 0, 0, 0, 4, 0, 5, 0, 0, 0, 0, 0, 6, 7, 8, 0, 0, 9, 0, 0, 0, 0, 10, 11, 0, 0, 14,
     0, 0, 0, 0, 0, 0, 0, 0, 0, 0, 0, 0, 12, 0, 0, 0, 0, 0, 0, 0, 0, 13, 0, 0, 0, 0, 0, 0, 0, 0, 0,

@@ -79,7 +79,8 @@ module _ (s : List ℕ) (h : Header) (end : ℕ) (st : State) (asked : ℕ) (buf
 
 pub speed_unmarked : (st : State) (list : List ℕ) → (speed_work st list).answer.marked ≡ 0
 unfolding speed_work
-speed_unmarked st list = either (λ (x : Outcome State). x.answer.marked ≡ 0) (not (good_list list)) _ _ (λ e. ends_unmarked _ _ _ _) (λ e. ends_unmarked _ _ _ _)
+speed_unmarked st list =
+    either (λ (x : Outcome State). x.answer.marked ≡ 0) (not (good_list list)) _ _ (λ e. ends_unmarked _ _ _ _) (λ e. ends_unmarked _ _ _ _)
 
 -- ---- a device whose READ counts the marked blocks that it copies, all of which are in the image, and whose other work tells of none
 

@@ -13,7 +13,7 @@ pub const SENSE_LENGTH: usize = 20;
 
 pub const INQUIRY_LENGTH: usize = 36;
 
-// 1Ah: the pages that both devices have.
+// Codes and lengths are bytes of packets and lists. 1Ah: the pages that both devices have.
 pub const HEADER_ALONE: u8 = 0x00;
 
 pub const DEVICE_PAGE: u8 = 0x2A;

@@ -1,9 +1,23 @@
 -- The sense of each ending: key, ASC, ASCQ, and what a stop adds.
 -- Assumes nothing.
 use Rattle.std.specs.Prelude.{ℕ, Bool, true, false}
+use Rattle.packet_state.specs.declared.senses.Key.{Key}
+use Rattle.packet_state.specs.declared.senses.Key.TheVariants.{NoSense, NotReady, MediumError, IllegalRequest, UnitAttention, DataProtect, BlankCheck}
+use Rattle.packet_state.specs.declared.senses.Key.TheVariants.{VolumeOverflow}
 use Rattle.packet_state.specs.declared.state.Sense.{Sense}
 use Rattle.packet_state.specs.declared.state.Attention.{Attention}
 use Rattle.packet_state.specs.declared.state.Attention.TheVariants.{Nothing, MediumChanged, Reset}
+
+-- 003, the sense keys
+abbrev pub key_byte : Key → ℕ
+key_byte NoSense = 0
+key_byte NotReady = 2
+key_byte MediumError = 3
+key_byte IllegalRequest = 5
+key_byte UnitAttention = 6
+key_byte DataProtect = 7
+key_byte BlankCheck = 8
+key_byte VolumeOverflow = 0x0d
 
 -- key, ASC and ASCQ alone
 abbrev pub plain : ℕ → ℕ → ℕ → Sense

@@ -8,7 +8,7 @@ use numbers::refusals::Refusal;
 
 #[derive(Clone, Copy, PartialEq, Eq)]
 pub enum Attention {
-    Nothing = 0,
+    Nothing = 0, // no None: the record's byte has the three, and 01 names each
     MediumChanged = 1,
     Reset = 2,
 }
@@ -33,7 +33,7 @@ pub struct Sense {
     pub ascq: u8,
     pub filemark: bool,
     pub eom: bool,
-    pub valid: bool,
+    pub valid: bool, // no Option: 01's record has both, and a host's record keeps a number beside a valid that is off
     pub information: u32,
 }
 
@@ -50,7 +50,7 @@ pub struct State {
 // What the answer tells of a packet that is not refused.
 #[derive(Clone, Copy)]
 pub struct Told {
-    pub status: u8,
+    pub status: u8, // a byte of the C answer, by name in packet_parts
     pub blocks: u32,
     pub bytes: u32,
     pub marked: u32, // 02, A6: of the blocks that a READ copied
@@ -66,7 +66,7 @@ pub struct Outcome<R> {
 // How a packet that is answered ends: GOOD, or CHECK CONDITION with this sense.
 pub type Ending = Result<(), Sense>;
 
-// What is found before the work.
+// What is found before the work. No Result: a refusal and an ending are two kinds of answer, and the work gives nothing yet.
 #[derive(Clone, Copy)]
 pub enum Verdict {
     Refuses(Refusal),

@@ -78,6 +78,7 @@ fn cartridge_byte(c: Cartridge) -> u8
     weight_of(c.protected, 1) + weight_of(c.burst, 2) + weight_of(c.wide, 4)
 }
 
+// The description and the record have the same fields at other places, so both are read by `cartridge_of`.
 #[tactic(auto, unfolding(crate::specs::PulseRecord::described_cartridge))]
 pub fn described_cartridge(bytes: &[u8]) -> Cartridge
     requires { 8 ≤ length bytes.now }

@@ -139,7 +139,7 @@ fn space(image: &[u8], h: Header, state: State, code: u8, count: u32) -> Outcome
     end_space(h, state, moved)
 }
 
-// 12h: the device type of a tape.
+// 12h: the device type of a tape, a byte of the reply.
 const SEQUENTIAL: u8 = 0x01;
 
 fn mode_sense(h: Header, state: State, q: Request, buf: &mut [u8]) -> Outcome<State>

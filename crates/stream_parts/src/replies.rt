@@ -16,6 +16,7 @@ pub const POSITION_LENGTH: u8 = 20;
 // 1Ah: bytes 12-13 of the device page.
 pub const UNIT_BLOCKS: u16 = 64;
 
+// A match of two arms here and of three for the floppy tape device is plainer than a table for both.
 pub fn mode_length(page: u8) -> usize
     ensures { result ≡ (if page % 64 ≡ᵇ device_page then full_list else short_list) }
 {

@@ -5,13 +5,14 @@ ghost use Rattle.stream_parts.specs.Requests.{request_of, is_back, magnitude};
 use opcodes::stream_command;
 use packet_parts::requests::{Request, request_under};
 
-// 11h: the codes of SPACE.
+// 11h: the codes of SPACE, numbers of the packet's byte 1, of which five more are a bad field.
 pub const OVER_BLOCKS: u8 = 0;
 
 pub const OVER_FILEMARKS: u8 = 1;
 
 pub const TO_END_OF_DATA: u8 = 3;
 
+// A line over the shared fields, here and for the floppy tape device: only the table of the commands differs.
 #[tactic(auto, unfolding(crate::specs::Requests::request_of))]
 pub fn request_of(packet: &[u8]) -> Request
     requires { length packet.now ≡ 12 }

@@ -12,6 +12,7 @@ pub struct TapeRecord {
     pub next: usize, // the place after its second word
 }
 
+// 02, A7 has these four things at a place; that one of them is refused is for the judge to say.
 #[derive(Clone, Copy)]
 pub enum Item {
     Ends(usize), // the end mark or the end of the file, and the place after it
@@ -20,6 +21,7 @@ pub enum Item {
     Cut, // refusal 11
 }
 
+// Words of the format, as they stand in a file.
 pub const TAPE_MARK: u32 = 0;
 
 pub const END_MARK: u32 = 0xffffffff;

@@ -1,4 +1,5 @@
 // The C interface of the card. Each call decodes a record, makes one call of an engine, and encodes what it leaves; none has a `requires`.
+// A function for each C name: what differs is the engine that is called.
 #![tactic(auto)]
 
 pub mod exchange_calls; // exchange_calls.rt: the calls that exchange a cartridge with a tape file

@@ -1,4 +1,5 @@
 // The archive that C and Rust hosts link: each call of `tapecard` under its C name, with the same promise. None has a `requires`.
+// An export for each C name.
 #![tactic(auto)]
 
 mod exchange_calls; // exchange_calls.rt: the calls that exchange a cartridge with a tape file

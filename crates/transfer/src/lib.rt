@@ -9,6 +9,8 @@ pub mod reading; // reading.rt: READ
 pub mod spacing; // spacing.rt: SPACE over blocks and filemarks, both ways
 pub mod writing; // writing.rt: WRITE and WRITE FILEMARK
 
+// The runs take any header and any end within it, the stream device's and the floppy tape device's: what they ask stands in each contract.
+
 // Why a run ended.
 #[derive(Clone, Copy)]
 pub enum Stop {
