@@ -25,7 +25,7 @@ use Rattle.exchange_laws.specs.Demands.{RefusedKeeps, NumberExactly, Settled}
 use Rattle.exchange_laws.specs.Words.{TakenTo, a_mark, a_record, DueFrom, cut_here, other_size, no_room, ends_here, goes_on}
 use Rattle.exchange_laws.specs.Words.{DueImport, bad_image, by_items, DueExport, too_short, written}
 use Rattle.exchange_laws.specs.Words.{broken as no-image}
-use Rattle.exchange_laws.proofs.Settling.{told_settled, left_settled}
+use Rattle.packet_laws.proofs.Settling.{told_settled, left_settled}
 use Rattle.exchange_laws.proofs.Ways.{ImportWay, broken, refused, taken, import_way, ExportWay, bad, short, well, export_way}
 
 -- the number that a reading gives
@@ -156,7 +156,7 @@ number_exactly =
 pub settled : Settled
 settled =
     record {
-      imported = λ s st file r r' i i' p q. left_settled st file r r' i i' (p ∙ sym q);
+      imported = λ s st file r r' i i' p q. let z = left_settled st r r' i i' file file (p ∙ sym q) in (z.0, z.1.0);
       exported = λ s file r r' f f' p q.
           let e = p ∙ sym q in
           (told_settled r r' (ap (λ (x : Exported). x.answer) e), ap (λ (x : Exported). x.file) e);

@@ -1,5 +1,4 @@
 pub mod Ways
-pub mod Settling
 pub mod Due
 pub mod Elements
 pub mod Storing

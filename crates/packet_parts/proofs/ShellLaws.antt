@@ -60,7 +60,8 @@ module _ {R : Type 0} (d : Device R) (s : List ℕ) (st : R) (packet : List ℕ)
 
     decided_by : (t a k : Bool) (h : Header) (w : Left R)
         → (if not t then Err NotTwelveBytes else if not a then Err BrokenImage else if not k then Err UnrulyRecord else Ok (fields_of s)) ≡ Ok h
-        → (t ≡ true) × ((fields_of s ≡ h) × (w ≡ (if not t then refuses st 1 s buf else if not a then refuses st 2 s buf else if not k then refuses st 3 s buf else w)))
+        → (t ≡ true)
+        × ((fields_of s ≡ h) × (w ≡ (if not t then refuses st 1 s buf else if not a then refuses st 2 s buf else if not k then refuses st 3 s buf else w)))
     decided_by false a k h w e = absurd cc
     decided_by true false k h w e = absurd cc
     decided_by true true false h w e = absurd cc
@@ -77,7 +78,8 @@ module _ {R : Type 0} (d : Device R) (s : List ℕ) (st : R) (packet : List ℕ)
 
 -- ---- what is found before the work
 
-module _ {R : Type 0} (d : Device R) (s : List ℕ) (h : Header) (st : R) (q : Request) (buf : List ℕ) (v : Verdict) (found : v ≡ found_by d h st q (length buf)) where
+module _ {R : Type 0} (d : Device R) (s : List ℕ) (h : Header) (st : R) (q : Request) (buf : List ℕ) (v : Verdict)
+    (found : v ≡ found_by d h st q (length buf)) where
   pub was_refused : (r : Refusal) → v ≡ Refuses r → left st (Err r) s buf ≡ decided d s h st q buf
   unfolding decided carried_out
   was_refused r e = rw (← found, e)
