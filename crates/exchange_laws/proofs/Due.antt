@@ -156,7 +156,7 @@ number_exactly =
 pub settled : Settled
 settled =
     record {
-      imported = λ s st file r r' i i' p q. let z = left_settled st r r' i i' file file (p ∙ sym q) in (z.0, z.1.0);
+      imported = λ s st file r r' i i' p q. let z = left_settled st r r' i i' file file (p ∙ sym q) in (z.0, z.1);
       exported = λ s file r r' f f' p q.
           let e = p ∙ sym q in
           (told_settled r r' (ap (λ (x : Exported). x.answer) e), ap (λ (x : Exported). x.file) e);
