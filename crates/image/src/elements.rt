@@ -70,7 +70,7 @@ impl Header {
     }
 
     // D + i*B can pass 32 bits, so it is summed in the 64 of a place in the image.
-    fn block_place(self, i: u32) -> usize
+    pub fn block_place(self, i: u32) -> usize
         requires { (i ≤ 65535) × (self.size ≤ 1024) }
         ensures { result ≡ self.blocks + i * self.size }
     {

@@ -1,44 +1,15 @@
 -- What a call leaves gives its result back, so two results of one promise are the same.
 -- Assumes nothing.
-use Prim.Native.Nat.{ℕ, zero, suc}
-use mathlib.Core.List.{List, [], ◌∷◌}
+use Prim.Native.Nat.{ℕ}
+use mathlib.Core.List.{List}
 use mathlib.Core.Path.{◌≡◌, refl, sym, ap, ◌∙◌}
-use lib.ListN.{get_or}
 use Rattle.std.specs.Prelude.{Result, Ok, Err}
-use Rattle.numbers.specs.Refusals.{number_of}
 use Rattle.numbers.specs.declared.refusals.Refusal.{Refusal}
-use Rattle.numbers.specs.declared.refusals.Refusal.TheVariants.{NotTwelveBytes, BrokenImage, UnrulyRecord, ShortBuffer, EmptyTrain, OutsideRanges, AlreadySo}
-use Rattle.numbers.specs.declared.refusals.Refusal.TheVariants.{RulesBroken, ShortIndex, StaleIndex, CutLengths, OtherLength, TooManyItems}
+use Rattle.numbers.proofs.RefusalLaws.{by_number, by_reason}
 use Rattle.packet_state.specs.declared.state.Outcome.{Outcome}
 use Rattle.packet_state.specs.declared.state.Told.{Told}
 use Rattle.packet_state.specs.Answers.{Answer, answer_of}
 use Rattle.packet_parts.specs.Answers.{Left, left}
-
--- in the order of their numbers, from 1 on
-abbrev reasons : List Refusal
-reasons =
-    NotTwelveBytes ∷ BrokenImage ∷ UnrulyRecord ∷ ShortBuffer ∷ EmptyTrain ∷ OutsideRanges ∷ AlreadySo ∷ RulesBroken ∷ ShortIndex ∷ StaleIndex ∷ CutLengths
-    ∷ OtherLength ∷ TooManyItems ∷ []
-
--- a result by its number
-abbrev by_number : {A : Type 0} → ℕ → A → Result A Refusal
-by_number zero x = Ok x
-by_number (suc n) x = Err (get_or reasons n NotTwelveBytes)
-
-by_reason : {A : Type 0} (reason : Refusal) (x : A) → by_number (number_of reason) x ≡ Err reason
-by_reason NotTwelveBytes x = refl
-by_reason BrokenImage x = refl
-by_reason UnrulyRecord x = refl
-by_reason ShortBuffer x = refl
-by_reason EmptyTrain x = refl
-by_reason OutsideRanges x = refl
-by_reason AlreadySo x = refl
-by_reason RulesBroken x = refl
-by_reason ShortIndex x = refl
-by_reason StaleIndex x = refl
-by_reason CutLengths x = refl
-by_reason OtherLength x = refl
-by_reason TooManyItems x = refl
 
 -- what an answer tells beside its number
 abbrev pub told_in : Answer → Told

@@ -72,7 +72,7 @@ answered_with st status sense blocks bytes = record { answer = told status block
 
 -- "Each packet but 03h that isn't refused replaces the sense, with zero where it ends GOOD."
 unfoldable pub ends : State → Ending → ℕ → ℕ → Outcome State
-ends st (Ok done) blocks bytes = answered_with st good_status no_sense blocks bytes
+ends st (Ok u) blocks bytes = answered_with st good_status no_sense blocks bytes
 ends st (Err sense) blocks bytes = answered_with st check_condition sense blocks bytes
 
 -- 02, A6: "a READ's answer also says how many of the blocks copied were marked"; every other answer has 0 there

@@ -3,8 +3,7 @@
 
 ghost use Rattle.std.specs.Prelude.{◌≡◌, ◌≤◌, length};
 ghost use Rattle.packet_record.specs.PacketRecord.{decode_state, encode_state, encode_answer};
-ghost use Rattle.packet_state.specs.Answers.{accepted, refusal, answer_of};
-ghost use Rattle.numbers.specs.Refusals.{number_of};
+ghost use Rattle.packet_state.specs.Answers.{numbered, answer_of};
 
 use numbers::counts::{count2, count4, put_count2, put_count4};
 use numbers::flags::{is_set, weight_of};
@@ -58,11 +57,13 @@ pub fn encode_state(state: State) -> [u8; 16]
     bytes
 }
 
+// An answer with this number, for any that a host may be told.
 #[tactic(auto, unfolding(crate::specs::PacketRecord::encode_answer))]
-fn encode_told(told: Told) -> [u8; 16]
-    ensures { result ≡ encode_answer (accepted told) }
+pub fn encode_numbered(number: u8, told: Told) -> [u8; 16]
+    ensures { result ≡ encode_answer (numbered number told) }
 {
     let mut bytes = [0; 16];
+    bytes[0] = number;
     bytes[1] = told.status;
     put_count4(&mut bytes, 4, told.blocks);
     put_count4(&mut bytes, 8, told.bytes);
@@ -70,20 +71,19 @@ fn encode_told(told: Told) -> [u8; 16]
     bytes
 }
 
-#[tactic(auto, unfolding(crate::specs::PacketRecord::encode_answer))]
-fn encode_refusal(why: Refusal) -> [u8; 16]
-    ensures { result ≡ encode_answer (refusal (number_of why)) }
-{
-    let mut bytes = [0; 16];
-    bytes[0] = u8::from(why);
-    bytes
-}
+// 01: "A refusal returns its number, status 0, 0 blocks and bytes"
+const NOTHING: Told = Told {
+    status: 0,
+    blocks: 0,
+    bytes: 0,
+    marked: 0,
+};
 
 pub fn encode_answer(answer: Result<Told, Refusal>) -> [u8; 16]
     ensures { result ≡ encode_answer (answer_of answer) }
 {
     match answer {
-        Ok(told) => encode_told(told),
-        Err(why) => encode_refusal(why),
+        Ok(told) => encode_numbered(0, told),
+        Err(refusal) => encode_numbered(u8::from(refusal), NOTHING),
     }
 }

@@ -17,9 +17,12 @@ pub record Answer : Type 0 where
 abbrev pub refusal : ℕ → Answer
 refusal number = record { number = number; status = 0; blocks = 0; bytes = 0; marked = 0 }
 
+abbrev pub numbered : ℕ → Told → Answer
+numbered number t = record { number = number; status = t.status; blocks = t.blocks; bytes = t.bytes; marked = t.marked }
+
 -- "else the number is 0"
 abbrev pub accepted : Told → Answer
-accepted t = record { number = 0; status = t.status; blocks = t.blocks; bytes = t.bytes; marked = t.marked }
+accepted t = numbered 0 t
 
 abbrev pub answer_of : Result Told Refusal → Answer
 answer_of (Ok t) = accepted t

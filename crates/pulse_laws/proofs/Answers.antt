@@ -5,15 +5,19 @@ use native.Mathlib.Omega.{arith}
 use mathlib.Core.Bool.{Bool, true, false, not, cond, true≢false, false≢true}
 use mathlib.Core.List.{List}
 use mathlib.Core.Logic.{◌≢◌}
-use mathlib.Core.Path.{◌≡◌, refl, sym}
+use mathlib.Core.Path.{◌≡◌, refl, sym, ap, ◌∙◌}
 use lib.ListN.{length}
 use Rattle.numbers.specs.Choice.{◌≡ᵇ◌, ◌<ᵇ◌}
 use Rattle.numbers.specs.Member.{is_in}
+use Rattle.std.specs.Prelude.{Result, Ok, Err}
+use Rattle.numbers.specs.declared.refusals.Refusal.{Refusal}
 use Rattle.numbers.proofs.Cases.{settles}
+use Rattle.numbers.proofs.RefusalLaws.{by_number, by_reason}
+use Rattle.pulse.specs.declared.calls.Waited.{Waited as Passed}
 use Rattle.pulse_parts.specs.declared.cartridge.Cartridge.{Cartridge}
 use Rattle.pulse.specs.declared.drive.Drive.{Drive}
 use Rattle.pulse.specs.Calls.{Step, Waited, already_so, rules_broken, empty_train, insert_call, not_refused, outside_ranges, remove_call}
-use Rattle.pulse.specs.Calls.{refused, tick_call, train_call, wait_call}
+use Rattle.pulse.specs.Calls.{refused, told, told_wait, tick_call, train_call, wait_call}
 use Rattle.pulse.specs.Drives.{power_on}
 use Rattle.pulse.specs.Rules.{keeps_rules}
 use Rattle.pulse.specs.Trains.{Sent, sent, short_levels, trains_call}
@@ -160,6 +164,17 @@ number_exactly =
     }
 
 -- ---- one outcome
+result_again : (d : Drive) (r : Result Drive Refusal) → by_number (told d r).number (told d r).drive ≡ r
+result_again d (Ok next) = refl
+result_again d (Err reason) = by_reason reason d
+
+abbrev passed_in : Waited → Passed
+passed_in w = record { ticks = w.ticks; drive = w.drive }
+
+wait_again : (d : Drive) (r : Result Passed Refusal) → by_number (told_wait d r).number (passed_in (told_wait d r)) ≡ r
+wait_again d (Ok passed) = refl
+wait_again d (Err reason) = by_reason reason (passed_in (told_wait d (Err reason)))
+
 pub settled : Settled
 settled =
     record {
@@ -170,4 +185,6 @@ settled =
       remove = λ d. settles (remove_call d);
       wait = λ d limit. settles (wait_call d limit);
       trains = λ d counts levels. settles (trains_call d counts levels);
+      results = λ d r r' e. sym (result_again d r) ∙ ap (λ (x : Step). by_number x.number x.drive) e ∙ result_again d r';
+      waits = λ d r r' e. sym (wait_again d r) ∙ ap (λ (x : Waited). by_number x.number (passed_in x)) e ∙ wait_again d r';
     }

@@ -1,6 +1,7 @@
 -- What is demanded of the pulse drive: each demand is one type, proved under the same name in proofs/.
 -- Assumes nothing.
-use Rattle.std.specs.Prelude.{ℕ, ◌-◌, ◌≤◌, min, true, false, not, ◌||◌, List, map, ◌≢◌, ◌≡◌, drop, length, replicate}
+use Rattle.std.specs.Prelude.{ℕ, ◌-◌, ◌≤◌, min, true, false, not, ◌||◌, List, map, ◌≢◌, ◌≡◌, drop, length, replicate, Result}
+use Rattle.numbers.specs.declared.refusals.Refusal.{Refusal}
 use Rattle.numbers.specs.Choice.{◌≡ᵇ◌, ◌<ᵇ◌}
 use Rattle.numbers.specs.Member.{is_in}
 use Rattle.numbers.specs.Outcomes.{Settles}
@@ -8,9 +9,10 @@ use Rattle.pulse_codes.specs.Codes.{soft_reset}
 use Rattle.pulse_codes.specs.Errors.{no_error}
 use Rattle.pulse_parts.specs.declared.cartridge.Cartridge.{Cartridge}
 use Rattle.pulse_parts.specs.Faults.{error_held}
+use Rattle.pulse.specs.declared.calls.Waited.{Waited as Passed}
 use Rattle.pulse.specs.declared.drive.Drive.{Drive}
 use Rattle.pulse.specs.Calls.{Step, already_so, empty_train, insert_call, not_refused, outside_ranges, refused, remove_call, tick_call, train_call, wait_call}
-use Rattle.pulse.specs.Calls.{InsertPromise, PowerOnPromise, RemovePromise, TickPromise, TrainPromise, WaitPromise}
+use Rattle.pulse.specs.Calls.{told, told_wait, InsertPromise, PowerOnPromise, RemovePromise, TickPromise, TrainPromise, WaitPromise}
 use Rattle.pulse.specs.Drives.{is_ready, power_on}
 use Rattle.pulse.specs.Rules.{keeps_rules, max_segments}
 use Rattle.pulse.specs.Trains.{TrainsPromise, sent, short_levels, trains_call}
@@ -126,6 +128,9 @@ pub record Settled : Type 0 where
   pub remove : (d : Drive) → Settles (RemovePromise d)
   pub wait : (d : Drive) (limit : ℕ) → Settles (WaitPromise d limit)
   pub trains : (d : Drive) (counts levels : List ℕ) → Settles (TrainsPromise d counts levels)
+  -- and what a call on d tells gives back its result
+  pub results : (d : Drive) (r r' : Result Drive Refusal) → told d r ≡ told d r' → r ≡ r'
+  pub waits : (d : Drive) (r r' : Result Passed Refusal) → told_wait d r ≡ told_wait d r' → r ≡ r'
 
 -- 01: "A small set is proved together as one table (*)"
 abbrev pub PlatesPrint : Type 0

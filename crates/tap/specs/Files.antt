@@ -4,7 +4,6 @@ use Rattle.std.specs.Prelude.{ℕ, zero, suc, ◌+◌, ◌%◌, Bool, List, [], 
 use Rattle.numbers.specs.Choice.{◌≡ᵇ◌}
 use Rattle.numbers.specs.Flags.{weight_of}
 use Rattle.numbers.specs.Over.{part}
-use Rattle.numbers.specs.Refusals.{number_of}
 use Rattle.numbers.specs.Words.{word_bytes}
 use Rattle.numbers.specs.declared.refusals.Refusal.{Refusal}
 use Rattle.numbers.specs.declared.refusals.Refusal.TheVariants.{CutLengths, OtherLength, TooManyItems}
@@ -47,13 +46,13 @@ file_of (e ∷ es) = bytes_of e ++ file_of es
 
 -- "11, lengths disagree or are cut; 12, record not B bytes; 13, more than C elements"
 abbrev pub cut_lengths : ℕ
-cut_lengths = number_of CutLengths
+cut_lengths = 11
 
 abbrev pub other_length : ℕ
-other_length = number_of OtherLength
+other_length = 12
 
 abbrev pub too_many : ℕ
-too_many = number_of TooManyItems
+too_many = 13
 
 -- what a file is found to hold: its elements, and how many of its bytes they take with the end mark; or why it is refused
 pub data Reading : Type 0 where
