@@ -4,7 +4,7 @@ ghost use Rattle.pulse_codes.specs.Arguments.{in_range, highest_nibble};
 ghost use Rattle.pulse.specs.Arguments.{track_sought, skipped, nibble_taken, argument_taken, argument_read, step_argument};
 
 use crate::drive::Drive;
-use pulse_codes::{Waiting, arguments, codes, errors};
+use pulse_codes::{ErrorNumber, Waiting, arguments, codes};
 
 impl Drive {
     #[tactic(auto, unfolding(crate::specs::Arguments::track_sought))]
@@ -14,7 +14,7 @@ impl Drive {
         if track < self.cart.tracks as u16 {
             return self.with_head(self.head.on_track(track as u8));
         }
-        self.latch(errors::ILLEGAL_TRACK, codes::SEEK_TRACK as u8)
+        self.latch(ErrorNumber::IllegalTrack, codes::SEEK_TRACK as u8)
     }
 
     #[tactic(auto, unfolding(crate::specs::Arguments::skipped))]

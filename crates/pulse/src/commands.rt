@@ -3,7 +3,7 @@ ghost use Rattle.std.specs.Prelude.{◌≡◌};
 ghost use Rattle.pulse.specs.Commands.{obeyed, checked, step_command};
 
 use crate::drive::Drive;
-use pulse_codes::{Waiting, codes, errors};
+use pulse_codes::{ErrorNumber, Waiting, codes};
 
 impl Drive {
     #[tactic(auto, unfolding(crate::specs::Commands::obeyed))]
@@ -47,6 +47,6 @@ impl Drive {
         if self.head.gives_way(code) {
             return self.stop().check_command(code);
         }
-        self.latch(errors::NOT_READY, code)
+        self.latch(ErrorNumber::NotReady, code)
     }
 }

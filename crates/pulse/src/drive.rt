@@ -67,13 +67,10 @@ impl Drive {
         Drive { marks, ..self }
     }
 
-    pub(crate) fn with_fault(self, error: u8, command: u8) -> Self
-        ensures { result ≡ with_fault self error command }
+    pub(crate) fn with_fault(self, fault: Fault) -> Self
+        ensures { result ≡ with_fault self fault.error fault.command }
     {
-        Drive {
-            fault: Fault { error, command },
-            ..self
-        }
+        Drive { fault, ..self }
     }
 
     pub(crate) fn with_report(self, report: Report) -> Self

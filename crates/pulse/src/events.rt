@@ -3,7 +3,7 @@ ghost use Rattle.std.specs.Prelude.{◌≡◌};
 ghost use Rattle.pulse.specs.Events.{exchanged, inserted, emptied, removed};
 
 use crate::drive::Drive;
-use pulse_codes::errors;
+use pulse_codes::ErrorNumber;
 use pulse_parts::{Cartridge, Fault, Head, Marks, Report};
 
 impl Drive {
@@ -41,7 +41,7 @@ impl Drive {
         if self.is_ready() {
             return self.empty();
         }
-        self.latch(errors::CARTRIDGE_MISSING, Fault::NO_COMMAND)
+        self.latch(ErrorNumber::CartridgeMissing, Fault::NO_COMMAND)
             .empty()
     }
 }

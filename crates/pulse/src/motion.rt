@@ -1,9 +1,11 @@
 // What moves the tape, what stops it, and an error that is held.
 ghost use Rattle.std.specs.Prelude.{◌≡◌};
+ghost use Rattle.pulse_codes.specs.Errors.{error_byte};
 ghost use Rattle.pulse.specs.Motions.{stopped, load_ended, load_started, run_started, latched, motion_ended, arrived, ticked};
 
 use crate::drive::Drive;
-use pulse_parts::{Head, Marks, Motion};
+use pulse_codes::ErrorNumber;
+use pulse_parts::{Fault, Head, Marks, Motion};
 
 impl Drive {
     pub(crate) fn stop(self) -> Self
@@ -46,16 +48,17 @@ impl Drive {
     }
 
     #[tactic(auto, unfolding(crate::specs::Motions::latched))]
-    pub(crate) fn latch(self, error: u8, command: u8) -> Self
-        ensures { result ≡ latched self error command }
+    pub(crate) fn latch(self, error: ErrorNumber, command: u8) -> Self
+        ensures { result ≡ latched self (error_byte error) command }
     {
         if self.fault.is_held() {
             return self;
         }
+        let faulted = self.with_fault(Fault::of(error, command));
         if self.head.runs() {
-            return self.with_fault(error, command).stop();
+            return faulted.stop();
         }
-        self.with_fault(error, command)
+        faulted
     }
 
     fn end_motion(self) -> Self

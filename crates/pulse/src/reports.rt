@@ -3,7 +3,7 @@ ghost use Rattle.std.specs.Prelude.{◌≡◌};
 ghost use Rattle.pulse.specs.Reports.{item_given, step_report, report_of, status_asked, error_read, step_open_report};
 
 use crate::drive::Drive;
-use pulse_codes::{codes, errors};
+use pulse_codes::{ErrorNumber, codes};
 use pulse_parts::{Fault, Report, reports};
 
 impl Drive {
@@ -30,7 +30,7 @@ impl Drive {
         }
         self.with_report(Report::none())
             .with_level(false)
-            .latch(errors::ILLEGAL_IN_REPORT, codes::as_byte(n))
+            .latch(ErrorNumber::IllegalInReport, codes::as_byte(n))
     }
 
     #[tactic(auto, unfolding(crate::specs::Reports::report_of))]
@@ -68,7 +68,7 @@ impl Drive {
     {
         if self.head.stands() {
             return self
-                .with_fault(errors::NO_ERROR, Fault::NO_COMMAND)
+                .with_fault(Fault::none())
                 .with_marks(self.marks.after_reading());
         }
         self

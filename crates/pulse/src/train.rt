@@ -3,7 +3,7 @@ ghost use Rattle.std.specs.Prelude.{◌≡◌};
 ghost use Rattle.pulse.specs.Train.{cleared, step_reset, step_unsupported, train_step};
 
 use crate::drive::Drive;
-use pulse_codes::{codes, errors};
+use pulse_codes::{ErrorNumber, codes};
 use pulse_parts::{Fault, Report};
 
 impl Drive {
@@ -13,10 +13,7 @@ impl Drive {
         Drive {
             waiting: None,
             report: Report::none(),
-            fault: Fault {
-                error: errors::SOFTWARE_RESET,
-                command: codes::SOFT_RESET as u8,
-            },
+            fault: Fault::of(ErrorNumber::SoftwareReset, codes::SOFT_RESET as u8),
             marks: self.marks.forgotten(),
             ..self
         }
@@ -37,7 +34,7 @@ impl Drive {
         ensures { result ≡ step_unsupported self n }
     {
         if n < codes::REPORT_VENDOR {
-            return self.latch(errors::UNDEFINED_COMMAND, codes::as_byte(n));
+            return self.latch(ErrorNumber::UndefinedCommand, codes::as_byte(n));
         }
         self
     }

@@ -2,6 +2,9 @@
 -- Assumes nothing.
 use Rattle.std.specs.Prelude.{ℕ, Bool, List, [], ◌∷◌}
 use Rattle.numbers.specs.Member.{is_in}
+use Rattle.pulse_codes.specs.declared.errors.ErrorNumber.{ErrorNumber}
+use Rattle.pulse_codes.specs.declared.errors.ErrorNumber.TheVariants.{NotReady, CartridgeMissing, UndefinedCommand, IllegalTrack, IllegalInReport}
+use Rattle.pulse_codes.specs.declared.errors.ErrorNumber.TheVariants.{NewCartridgePending, NotReferenced, PowerOnReset, SoftwareReset}
 
 abbrev pub no_error : ℕ
 no_error = 0
@@ -41,6 +44,18 @@ power_on_reset = 26
 -- 000: "Software Reset Occurred"
 abbrev pub software_reset : ℕ
 software_reset = 27
+
+-- the number of a named error
+abbrev pub error_byte : ErrorNumber → ℕ
+error_byte NotReady = not_ready
+error_byte CartridgeMissing = cartridge_missing
+error_byte UndefinedCommand = undefined_command
+error_byte IllegalTrack = illegal_track
+error_byte IllegalInReport = illegal_in_report
+error_byte NewCartridgePending = new_cartridge_pending
+error_byte NotReferenced = not_referenced
+error_byte PowerOnReset = power_on_reset
+error_byte SoftwareReset = software_reset
 
 abbrev pub admitted_errors : List ℕ
 admitted_errors =

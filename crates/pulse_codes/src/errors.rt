@@ -1,43 +1,32 @@
-// The error numbers (000, section 3.5) that 01 admits. They are bytes: a record may hold any until its rules are judged.
+// The error numbers (000, section 3.5) that 01 admits, by name; a record may hold any byte until its rules are judged.
 ghost use Rattle.std.specs.Prelude.{◌≡◌};
-ghost use Rattle.pulse_codes.specs.Errors.{admitted};
+ghost use Rattle.pulse_codes.specs.Errors.{admitted, error_byte};
 
-pub const NO_ERROR: u8 = 0;
+#[derive(Clone, Copy, PartialEq, Eq)]
+pub enum ErrorNumber {
+    NotReady = 1,
+    CartridgeMissing = 2,
+    UndefinedCommand = 6,
+    IllegalTrack = 7,
+    IllegalInReport = 8,
+    NewCartridgePending = 13,
+    NotReferenced = 19,
+    PowerOnReset = 26,
+    SoftwareReset = 27,
+}
 
-pub const NOT_READY: u8 = 1;
+impl From<ErrorNumber> for u8 {
+    ghost from_gives = { λ error byte. byte ≡ error_byte error };
 
-pub const CARTRIDGE_MISSING: u8 = 2;
+    fn from(error: ErrorNumber) -> u8 {
+        error as u8
+    }
+}
 
-pub const UNDEFINED_COMMAND: u8 = 6;
-
-pub const ILLEGAL_TRACK: u8 = 7;
-
-pub const ILLEGAL_IN_REPORT: u8 = 8;
-
-pub const NEW_CARTRIDGE_PENDING: u8 = 13;
-
-pub const NOT_REFERENCED: u8 = 19;
-
-pub const POWER_ON_RESET: u8 = 26;
-
-pub const SOFTWARE_RESET: u8 = 27;
-
-const ADMITTED: [u8; 10] = [
-    NO_ERROR,
-    NOT_READY,
-    CARTRIDGE_MISSING,
-    UNDEFINED_COMMAND,
-    ILLEGAL_TRACK,
-    ILLEGAL_IN_REPORT,
-    NEW_CARTRIDGE_PENDING,
-    NOT_REFERENCED,
-    POWER_ON_RESET,
-    SOFTWARE_RESET,
-];
-
-#[tactic(auto, using(numbers::proofs::MemberLaws::is_any))]
+// 01: "error 0, 1, 2, 6, 7, 8, 13, 19, 26 or 27"
+#[tactic(auto, unfolding(numbers::specs::Member::is_in))]
 pub fn is_admitted(error: u8) -> bool
     ensures { result ≡ admitted error }
 {
-    ADMITTED.contains(&error)
+    matches!(error, 0 | 1 | 2 | 6 | 7 | 8 | 13 | 19 | 26 | 27)
 }

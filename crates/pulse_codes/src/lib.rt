@@ -6,3 +6,4 @@ pub mod errors; // errors.rt: the error numbers
 pub mod arguments; // arguments.rt: the arguments of a code
 
 pub use arguments::Waiting;
+pub use errors::ErrorNumber;

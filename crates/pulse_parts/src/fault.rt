@@ -1,8 +1,9 @@
 // The error that is held until it is read, and the code it came with.
 ghost use Rattle.std.specs.Prelude.{◌≡◌};
-ghost use Rattle.pulse_parts.specs.Faults.{error_held, power_on_fault};
+ghost use Rattle.pulse_codes.specs.Errors.{error_byte};
+ghost use Rattle.pulse_parts.specs.Faults.{error_held, fault_of, no_fault, power_on_fault};
 
-use pulse_codes::errors;
+use pulse_codes::ErrorNumber;
 
 #[derive(Clone, Copy, PartialEq, Eq)]
 pub struct Fault {
@@ -11,21 +12,38 @@ pub struct Fault {
 }
 
 impl Fault {
+    const NO_ERROR: u8 = 0;
+
     // The command of an error that no train gave.
     pub const NO_COMMAND: u8 = 0;
+
+    pub fn none() -> Self
+        ensures { result ≡ no_fault }
+    {
+        Fault {
+            error: Fault::NO_ERROR,
+            command: Fault::NO_COMMAND,
+        }
+    }
+
+    pub fn of(error: ErrorNumber, command: u8) -> Self
+        ensures { result ≡ fault_of (error_byte error) command }
+    {
+        Fault {
+            error: u8::from(error),
+            command,
+        }
+    }
 
     pub fn at_power_on() -> Self
         ensures { result ≡ power_on_fault }
     {
-        Fault {
-            error: errors::POWER_ON_RESET,
-            command: Fault::NO_COMMAND,
-        }
+        Fault::of(ErrorNumber::PowerOnReset, Fault::NO_COMMAND)
     }
 
     pub fn is_held(self) -> bool
         ensures { result ≡ error_held self }
     {
-        self.error != errors::NO_ERROR
+        self.error != Fault::NO_ERROR
     }
 }

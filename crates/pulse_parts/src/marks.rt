@@ -1,8 +1,9 @@
 // What the drive remembers of the cartridge: that one is in, referenced, new (fresh), and that its status was asked.
-ghost use Rattle.std.specs.Prelude.{◌≡◌, true, false, not, ◌&&◌};
+ghost use Rattle.std.specs.Prelude.{◌≡◌, true, false, not, ◌&&◌, option_map};
+ghost use Rattle.pulse_codes.specs.Errors.{error_byte};
 ghost use Rattle.pulse_parts.specs.Marking.{no_marks, new_marks, mark_asked, mark_fresh, mark_referenced, command_error};
 
-use pulse_codes::{codes, errors};
+use pulse_codes::{ErrorNumber, codes};
 
 #[derive(Clone, Copy, PartialEq, Eq)]
 pub struct Marks {
@@ -66,18 +67,18 @@ impl Marks {
 
     // What a command is refused for.
     #[tactic(auto, unfolding(crate::specs::Marking::command_error))]
-    pub fn command_error(self, code: u8) -> Option<u8>
-        ensures { result ≡ command_error self code }
+    pub fn command_error(self, code: u8) -> Option<ErrorNumber>
+        ensures { option_map error_byte result ≡ command_error self code }
     {
         let n = code as u16;
         if self.fresh {
-            return Some(errors::NEW_CARTRIDGE_PENDING);
+            return Some(ErrorNumber::NewCartridgePending);
         }
         if codes::needs_cartridge(n) & !self.inside {
-            return Some(errors::CARTRIDGE_MISSING);
+            return Some(ErrorNumber::CartridgeMissing);
         }
         if codes::needs_reference(n) & !self.referenced {
-            return Some(errors::NOT_REFERENCED);
+            return Some(ErrorNumber::NotReferenced);
         }
         None
     }
