@@ -1,4 +1,4 @@
-// A number looked for in a table: the speeds, the admitted errors, a list of pulse counts.
+// A number looked for in a table: the speeds.
 ghost use Rattle.std.specs.Prelude.{◌≡◌};
 ghost use Rattle.numbers.specs.Member.{is_in};
 
