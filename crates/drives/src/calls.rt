@@ -1,13 +1,12 @@
 // One call sent, printed with what it is answered; the line is left open.
 use lines::show::Hex;
 use numbers::counts::count4;
+use pulse_codes::codes::REPORT_NEXT_BIT;
 use std::io;
 use tapecard::pulse_calls::{
     tapecard_pulse_insert, tapecard_pulse_power_on, tapecard_pulse_remove, tapecard_pulse_tick,
     tapecard_pulse_train, tapecard_pulse_wait,
 };
-
-const NEXT_BIT: u16 = 2;
 
 // The drive as its record's bytes.
 #[derive(Clone, Copy)]
@@ -70,7 +69,7 @@ impl Drive {
 
     fn next_bit(&mut self, rt: &impl Print) -> io::Result<()> {
         let mut answer = [0u8; 8];
-        tapecard_pulse_train(&mut self.state, NEXT_BIT, &mut answer);
+        tapecard_pulse_train(&mut self.state, REPORT_NEXT_BIT, &mut answer);
         let level = answer[1];
         print!(rt; " {level}")
     }

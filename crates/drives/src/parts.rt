@@ -5,6 +5,7 @@ use numbers::counts::count2;
 use numbers::flags::is_set;
 use std::io;
 
+// By the record's byte, which is what a host has of it.
 fn motion_name(motion: u8) -> &'static str {
     match motion {
         1 => " run",

@@ -1,4 +1,4 @@
-// 02, A7: "read theirs in".
+// 02, A7: "read theirs in". An export lends the image and an import changes it, so the two share no loop: no more than the for is alike.
 ghost use Rattle.std.specs.Prelude.{◌≡◌, ◌<◌, length};
 ghost use Rattle.image.specs.Header.{header_of};
 ghost use Rattle.tap.specs.Items.{item_at};

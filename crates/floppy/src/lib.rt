@@ -80,6 +80,7 @@ pub fn fresh(image: &[u8], before: Floppy) -> Result<Outcome<Floppy>, Refusal>
     mount(image, before, State::fresh())
 }
 
+// Over an image too, so it may be refused 2; the stream device's is never refused.
 pub fn changed(image: &[u8], before: Floppy) -> Result<Outcome<Floppy>, Refusal>
     ensures { ChangedPromise image.now before result }
 {

@@ -77,7 +77,7 @@ fn write(image: &mut [u8], h: Header, floppy: Floppy, asked: u8, buf: &[u8]) -> 
     end_moved(shared, n, h.size, moved, write_ending(moved.left))
 }
 
-// ---- 1Ah
+// ---- 1Ah: a page more than the stream device has; header, device page and reply are shared
 
 // 12h: "device type 1Fh".
 const UNASSIGNED: u8 = 0x1F;
@@ -101,7 +101,7 @@ fn mode_sense(h: Header, floppy: Floppy, q: Request, buf: &mut [u8]) -> Outcome<
     }
 }
 
-// ---- 15h
+// ---- 15h: a list more than the stream device has, with a test and a setting of its own; the speed's list is shared
 
 // 02, A1: "one that puts it below P sets P 0".
 #[tactic(auto, unfolding(crate::specs::Work::place_under))]
@@ -137,7 +137,7 @@ fn mode_select(h: Header, state: State, asked: u8, list: &[u8]) -> Outcome<State
     }
 }
 
-// ---- by command
+// ---- by command: a match for each device, since each has its own commands; what both do is in packet_work
 
 #[tactic(auto, using(crate::proofs::WorkLaws::work_ways), unfolding(floppy_parts::specs::Checks::asked_by, crate::specs::Work::work_of))]
 pub fn work(

@@ -29,6 +29,7 @@ fn bad_page(page: u8) -> bool
     !matches!(page, HEADER_ALONE | DEVICE_PAGE | TAPE_PAGE)
 }
 
+// A clause for each command of this device; the ways to ask and the verdict on them are shared (verdicts.rt).
 #[tactic(auto, unfolding(crate::specs::Checks::asked_by))]
 fn asked_by(h: Header, end: u32, q: Request) -> Asked
     ensures { result ≡ asked_by q.command h end q }

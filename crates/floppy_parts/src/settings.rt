@@ -12,6 +12,7 @@ use opcodes::Command;
 use packet_parts::replies::SHORT_LIST;
 use packet_parts::requests::Request;
 
+// Two bytes of a page of its own and a test of its own: no more than the form is alike in is_good_list.
 #[tactic(auto, unfolding(crate::specs::Settings::good_tape_list))]
 pub fn is_good_tape_list(h: Header, list: &[u8]) -> bool
     requires { 28 ≤ length list.now }

@@ -9,6 +9,7 @@ use numbers::copying::copy_block;
 use numbers::counts::{count2, put_count2};
 use packet_record::{decode_state, encode_state};
 
+// The fields of a list's page at other places, here and in encode_tape: nine places as parameters would be no plainer.
 #[tactic(auto, unfolding(crate::specs::FloppyRecord::decode_tape))]
 fn decode_tape(bytes: &[u8]) -> Tape
     requires { 32 ≤ length bytes.now }

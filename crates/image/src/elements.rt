@@ -107,6 +107,7 @@ impl Header {
         put_kind(image, self.kind_place(i), kind);
     }
 
+    // Two names, and lay_as for this file alone: with bytes an element is laid as one of these two kinds and no other.
     #[tactic(auto, unfolding(crate::specs::Elements::lay_block))]
     pub fn lay_block(self, image: &mut [u8], i: u32, block: &[u8])
         requires size_bound { self.size ≤ 1024 }

@@ -14,7 +14,7 @@ pub struct Header {
     pub kinds: u32, // K, where the kind table starts
     pub blocks: u32, // D, where the blocks start
     pub warning: u16, // W, early warning
-    pub protect: u8, // 1 where the cartridge is write protected
+    pub protect: u8, // 1 where the cartridge is write protected; a byte, since any may stand there until the ranges are judged
     pub medium: u8, // medium type
 }
 

@@ -14,6 +14,7 @@ pub fn is_short(index: &[u8], capacity: u32) -> bool
 }
 
 // Place p, where it is a filemark's, against entry n; the answer is the entry to compare next.
+// Place and mark are two parameters: an Option of the place would be made by the loop only to be taken apart here.
 #[tactic(auto, unfolding(crate::specs::Checking::compared_at))]
 fn compare_entry(index: &[u8], n: u32, p: u32, mark: bool) -> Option<u32>
     requires { (4 * n + 4 ≤ length index.now) × (n < 65535) }
@@ -38,6 +39,7 @@ fn compare_marks(image: &[u8], h: Header, index: &[u8]) -> Option<u32>
     Some(n)
 }
 
+// 02, A4: "the rest of the first 4*C bytes is FFh", bytes that a host reads.
 fn are_blank(bytes: &[u8]) -> bool
     ensures { result ≡ are_blank bytes.now }
 {

@@ -41,6 +41,7 @@ pub fn entries_below(index: &[u8], p: u32, n: u32) -> u32
 }
 
 // Place p becomes entry n where it is a filemark's; the answer is the next entry.
+// Place and mark are two parameters: an Option of the place would be made by the loop only to be taken apart here.
 fn put_entry(index: &mut [u8], n: u32, p: u32, mark: bool) -> u32
     requires { (4 * n + 4 ≤ length index.old) × (n < 65535) }
     ensures value { result ≡ (if mark then n + 1 else n) }

@@ -5,6 +5,7 @@ ghost use Rattle.packet_parts.specs.Answers.{told, ends_before, answered_with, e
 use packet_state::senses::no_sense;
 use packet_state::state::{Attention, Ending, Outcome, Sense, State, Told};
 
+// The status, a byte of the C answer.
 pub const GOOD: u8 = 0;
 
 const CHECK_CONDITION: u8 = 2;

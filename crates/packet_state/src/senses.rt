@@ -47,17 +47,20 @@ fn stop_sense(key: Key, asc: u8, ascq: u8, filemark: bool, eom: bool, left: u32)
     }
 }
 
+// Each sense by its name, a line over one of the two above: what differs is the numbers that 003 gives it.
+
 pub fn no_sense() -> Sense
     ensures { result ≡ no_sense }
 {
     plain_sense(Key::NoSense, 0x00, 0x00)
 }
 
+// Of Nothing none is ever told: a packet is held only where one of the other two is pending.
 pub fn unit_attention(attention: Attention) -> Sense
     ensures { result ≡ unit_attention attention }
 {
     match attention {
-        Attention::Nothing => plain_sense(Key::NoSense, 0x00, 0x00),
+        Attention::Nothing => no_sense(),
         Attention::MediumChanged => plain_sense(Key::UnitAttention, 0x28, 0x00),
         Attention::Reset => plain_sense(Key::UnitAttention, 0x29, 0x00),
     }

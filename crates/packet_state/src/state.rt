@@ -28,7 +28,7 @@ impl From<u8> for Attention {
 
 #[derive(Clone, Copy)]
 pub struct Sense {
-    pub key: u8,
+    pub key: u8, // a byte: a record may hold one that is no Key, and above 15 until refusal 3 is judged
     pub asc: u8,
     pub ascq: u8,
     pub filemark: bool,

@@ -11,6 +11,8 @@ use packet_state::state::{Outcome, State};
 // The length after itself, in the first byte of a mode header with the device page.
 const AFTER_FULL: u8 = 31;
 
+// A line for each command over reply, which is what they share: only the bytes differ.
+
 pub fn request_sense(state: State, asked: u8, buf: &mut [u8]) -> Outcome<State>
     requires { (state.sense.key ≤ 15) × (min asked 20 ≤ length buf.old) }
     ensures value { result ≡ reply_ends (sense_bytes state.sense) asked state }

@@ -1,14 +1,13 @@
 // What is lent to the drive, and one packet sent.
 use lines::show::Hex;
 use numbers::counts::count4;
+use packet_parts::replies::SENSE_LENGTH;
 use std::io;
 use tapecard::packet_calls::{tapecard_fresh, tapecard_packet};
 
 const IMAGE_LENGTH: usize = 2084;
 
 const BUFFER_LENGTH: usize = 2048;
-
-const SENSE_LENGTH: usize = 20;
 
 const REQUEST_SENSE: [u8; 12] = [3, 0, 0, 0, SENSE_LENGTH as u8, 0, 0, 0, 0, 0, 0, 0];
 

@@ -8,7 +8,7 @@ use pulse_parts::{Cartridge, Fault, Head, Marks, Report};
 
 #[derive(Clone, Copy, PartialEq, Eq)]
 pub struct Drive {
-    pub cart: Cartridge,
+    pub cart: Cartridge, // no Option: a record may hold one beside a mark that is off, until its rules are judged
     pub head: Head,
     pub marks: Marks,
     pub fault: Fault,

@@ -12,7 +12,7 @@ pub const HIGHEST_RATE: u16 = 3;
 // The arguments that a code waits for: how many are held, and their value, the first nibble lowest.
 #[derive(Clone, Copy, PartialEq, Eq)]
 pub struct Waiting {
-    pub code: u8,
+    pub code: u8, // the record's byte: any until its rules are judged
     pub held: u8,
     pub value: u16,
 }

@@ -14,6 +14,7 @@ pub struct Cartridge {
 }
 
 impl Cartridge {
+    // 01: "with none, these and the description 0".
     pub fn none() -> Self
         ensures { result ≡ no_cartridge }
     {

@@ -5,6 +5,7 @@ ghost use Rattle.pulse_parts.specs.Faults.{error_held, fault_of, no_fault, power
 
 use pulse_codes::ErrorNumber;
 
+// Bytes and no Option: a record may hold any error until its rules are judged, and a command beside error 0 is sent too.
 #[derive(Clone, Copy, PartialEq, Eq)]
 pub struct Fault {
     pub error: u8,
@@ -12,9 +13,10 @@ pub struct Fault {
 }
 
 impl Fault {
+    // The record's byte where no error is held.
     const NO_ERROR: u8 = 0;
 
-    // The command of an error that no train gave.
+    // The record's byte for the command of an error that no train gave; 01: "error 26 with command 0".
     pub const NO_COMMAND: u8 = 0;
 
     pub fn none() -> Self

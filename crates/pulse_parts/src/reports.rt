@@ -22,6 +22,7 @@ const EXTRA_LENGTH: u8 = 2;
 const QIC_80: u8 = 2;
 
 // The items left, the bits not sent yet, the next one lowest, and whether a repeat is owed.
+// No Option: a record may owe a repeat with no report open, or have more items left than 17, until its rules are judged.
 #[derive(Clone, Copy, PartialEq, Eq)]
 pub struct Report {
     pub left: u8,

@@ -12,6 +12,7 @@ use pulse::Drive;
 use pulse_codes::Waiting;
 use pulse_parts::{Cartridge, Fault, Head, Marks, Motion, Report};
 
+// 01, report bits: "read and written as 0 where no report is open".
 #[tactic(auto, unfolding(crate::specs::PulseRecord::unsent))]
 fn unsent(left: u8, bits: u16) -> u16
     ensures { result ≡ unsent left bits }
@@ -222,6 +223,7 @@ pub fn encode_drive(d: Drive) -> [u8; 32]
     ]
 }
 
+// An answer with this number, for any that a host may be told.
 #[tactic(auto, unfolding(crate::specs::PulseRecord::encode_told))]
 pub fn encode_told(number: u8, level: bool, ticks: u32) -> [u8; 8]
     ensures { result ≡ encode_told number level ticks }
