@@ -31,6 +31,7 @@ fn no_line(rt: &impl Print, letter: u8, spelled: &[u8]) -> io::Result<()> {
 }
 
 // The letter says what is called, and the bytes are to be all that is after it.
+// One match by letter: its arms take different bytes, which a table of closures would have to hide.
 fn call(rt: &impl Print, drive: &mut Drive, letter: u8, spelled: &[u8]) -> io::Result<()> {
     let read = bytes_of(spelled);
     let bytes = read.as_slice();

@@ -16,6 +16,7 @@ use tap::judging::judge;
 use tap::reader::read;
 
 // The item at place `at` of a file that was judged becomes element i; the answer is the place after it.
+// Image and header are two parameters: an import changes the image that the header was read from.
 #[tactic(auto, using(crate::proofs::ImportLaws::item_ways))]
 fn store_item(image: &mut [u8], h: Header, i: u32, file: &[u8], at: usize) -> usize
     requires image_value { header_of image.old ≡ Some h }

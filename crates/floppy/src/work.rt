@@ -21,24 +21,26 @@ use packet_state::state::{Ending, Outcome, State};
 use packet_work::moving::{end_moved, end_read};
 use packet_work::replies::{device_mode, inquiry, request_sense};
 use packet_work::settings::{load_unload, prevent_allow, select_speed};
-use transfer::Stop;
 use transfer::reading::read_blocks;
 use transfer::writing::write_blocks;
+use transfer::{Moved, Stop};
 
 // ---- 08h, 0Ah: end, endings and the width of the count are this device's; the runs and what ends a packet are the stream device's too
 
 // 02, A1: "Its residue on an unreadable block leaves out the block in error", and a filemark "counts as unreadable". "W plays no part": no EOM.
 #[tactic(auto, unfolding(crate::specs::Work::read_ending))]
-fn read_ending(stop: Stop, left: u32) -> Ending
-    ensures { result ≡ read_ending stop left }
+fn read_ending(moved: Moved) -> Ending
+    ensures { result ≡ read_ending moved.stop moved.left }
 {
-    match stop {
+    let left = moved.left;
+    match moved.stop {
         Stop::Full | Stop::AtBeginning => Ok(()),
         Stop::AtFilemark | Stop::AtBadBlock => Err(unreadable_block(left.saturating_sub(1))),
         Stop::AtEnd => Err(end_of_data(false, left)),
     }
 }
 
+// Header, place and room stand in each contract: no struct beside a lent image and buffer, which the work changes, could keep what they say.
 #[tactic(auto, using(crate::proofs::WorkLaws::end_bound), unfolding(crate::specs::Work::read_work, crate::specs::Work::read_ends))]
 fn read(image: &[u8], h: Header, floppy: Floppy, asked: u8, buf: &mut [u8]) -> Outcome<State>
     requires passed { Passed image.now h floppy.shared floppy.tape }
@@ -49,7 +51,7 @@ fn read(image: &[u8], h: Header, floppy: Floppy, asked: u8, buf: &mut [u8]) -> O
     let Floppy { shared, tape } = floppy;
     let n = asked as u32;
     let moved = read_blocks(image, h, tape.end(), buf, n, shared.position);
-    let ending = read_ending(moved.stop, moved.left);
+    let ending = read_ending(moved);
     end_read(image, h, shared, n, moved, ending)
 }
 
@@ -85,6 +87,7 @@ const UNASSIGNED: u8 = 0x1F;
 // 004, byte 4 of the device page: FTM, in floppy tape mode.
 const FLOPPY_MODE: u8 = 0x02;
 
+// By a byte of the packet: a pattern names each way once, as a table of closures would not.
 fn mode_sense(h: Header, floppy: Floppy, q: Request, buf: &mut [u8]) -> Outcome<State>
     requires { min q.length (mode_length q) ≤ length buf.old }
     ensures value { result ≡ reply_ends (mode_bytes h floppy.shared floppy.tape q) q.length floppy.shared }
@@ -124,6 +127,7 @@ fn select_tape(h: Header, state: State, list: &[u8]) -> Outcome<State>
     end(state.at_place(place), Ok(()), 0, TAPE_LIST as u32)
 }
 
+// asked: how many bytes of the lent buffer are the list, by the packet. By that number a pattern names each way once, as a table of closures would not.
 #[tactic(auto, unfolding(crate::specs::Work::select_work))]
 fn mode_select(h: Header, state: State, asked: u8, list: &[u8]) -> Outcome<State>
     requires capacity_bound { h.capacity ≤ 65535 }

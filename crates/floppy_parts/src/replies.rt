@@ -27,6 +27,7 @@ pub fn mode_length(page: u8) -> usize
     }
 }
 
+// No From: the record has the same tape in sixteen bytes too, at other places.
 pub fn tape_page(tape: Tape) -> [u8; 16]
     ensures { result ≡ tape_page_bytes tape }
 {

@@ -52,6 +52,7 @@ impl Reported {
         }
     }
 
+    // No From: the byte has the three flags alone, and not the rest.
     pub fn flags_byte(self) -> u8
         ensures { result ≡ flags_byte self }
     {
@@ -76,6 +77,7 @@ impl Tape {
     }
 
     // The page of a list stands after its header.
+    // No From: 28 bytes are asked for, and the record has the same tape at other places.
     #[tactic(auto, unfolding(crate::specs::Tape::listed_tape))]
     pub fn listed(list: &[u8]) -> Tape
         requires { 28 ≤ length list.now }

@@ -37,6 +37,7 @@ fn is_block_size(size: u16) -> bool
     matches!(size, 512 | 1024)
 }
 
+// No From: 32 bytes are asked for, and a From may ask nothing.
 #[tactic(auto, unfolding(crate::specs::Header::fields_of))]
 fn fields(image: &[u8]) -> Header
     requires { 32 ≤ length image.now }
@@ -54,6 +55,7 @@ fn fields(image: &[u8]) -> Header
     }
 }
 
+// In these three a test for each rule of its list, in its order.
 fn has_fixed_bytes(image: &[u8]) -> bool
     ensures { result ≡ all_hold (fixed_bytes image.now) }
 {
@@ -95,6 +97,7 @@ fn keeps_ranges(h: Header) -> bool
 }
 
 // K + C and D + C*B can pass 32 bits, so they are summed in the 64 of a place in the image.
+// Asked of a header that keeps its ranges.
 fn keeps_places(h: Header, n: usize) -> bool
     requires { (h.capacity ≤ 65535) × (h.size ≤ 1024) }
     ensures { result ≡ all_hold (place_rules h n) }

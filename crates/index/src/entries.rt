@@ -12,6 +12,7 @@ use numbers::counts::{count4, put_count4};
 // 02, A4: bytes that a host reads, so no None.
 const NO_FILEMARK: u32 = 0xffffffff;
 
+// An index and the number of an entry: four big-endian bytes of a lent buffer are no slice of numbers.
 pub fn entry_at(index: &[u8], j: u32) -> u32
     requires { 4 * j + 4 ≤ length index.now }
     ensures { result ≡ entry_at index.now j }
@@ -71,6 +72,7 @@ fn put_marks(image: &[u8], h: Header, p: u32, end: u32, index: &mut [u8], first:
 }
 
 // The entries from `first` to `last` become FFh.
+// Entry by entry, since the promise is in entries: fill would put bytes, and asks that first is at most last.
 fn put_blanks(index: &mut [u8], first: u32, last: u32)
     requires { (4 * last ≤ length index.old) × (last ≤ 65535) }
     ensures { index.new ≡ over index.old (4 * first) (entry_bytes (replicate (last - first) no_filemark)) }

@@ -49,6 +49,7 @@ impl Bytes {
     }
 }
 
+// Not to_digit, which takes small letters too: a script has capitals.
 fn digit(c: u8) -> Option<u8>
     ensures { IfSome result (λ value. value < 16) }
 {

@@ -1,4 +1,4 @@
-// 01: "Numbers in packets and answers are big-endian." 02, A9: here alone bytes are joined and split, by multiplication and addition and by
+// 01: "Numbers in packets and answers are big-endian." 02, A9: here and in words.rt alone bytes are joined and split, by multiplication and addition and by
 // division. A number of two bytes is held in 16 bits, one of three or four in 32; three and four are the width below and a byte more.
 ghost use Rattle.std.specs.Prelude.{◌≡◌, ◌+◌, ◌*◌, ◌/◌, ◌%◌, ◌^◌, ◌<◌, ◌≤◌, length};
 ghost use Rattle.numbers.specs.Counts.{count_at, put_count};
@@ -27,6 +27,7 @@ pub fn low_byte(number: u16) -> u8
 
 // ---- counts read
 
+// A slice and a place in it, as 01 names fields: a part cut out at each place would be no shorter.
 pub fn count2(s: &[u8], at: usize) -> u16
     requires { at + 2 ≤ length s.now }
     ensures { result ≡ count_at s.now at 2 }

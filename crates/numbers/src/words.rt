@@ -5,6 +5,7 @@ ghost use Rattle.numbers.specs.Words.{word_at, word_bytes};
 
 use crate::counts::pair;
 
+// A slice and a place in it, as for counts.
 #[tactic(auto, using(crate::proofs::WordLaws::word_so))]
 pub fn word_at(s: &[u8], at: usize) -> u32
     requires { at + 4 ≤ length s.now }

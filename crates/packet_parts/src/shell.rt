@@ -14,6 +14,7 @@ use packet_state::state::{Outcome, Sense, Verdict};
 const PACKET_LENGTH: usize = 12;
 
 // The parts of a device that are its own, each held to the device that specs/ says it is.
+// Image, record and buffer are lent one by one and changed one by one, so each is a parameter: no struct of them could be lent in parts.
 pub trait PacketDevice {
     type Record: Copy;
 

@@ -10,7 +10,7 @@ use numbers::flags::{is_set, weight_of};
 use numbers::refusals::Refusal;
 use packet_state::state::{Attention, Sense, State, Told};
 
-// Named functions, here and for the other records: a record's layout is this crate's, and neither type of a From would be.
+// Named functions: a host keeps these bytes, a From may ask nothing of a slice's length, and neither of its types would be this crate's.
 #[tactic(auto, unfolding(crate::specs::PacketRecord::decode_state))]
 pub fn decode_state(bytes: &[u8]) -> State
     requires { 16 ≤ length bytes.now }

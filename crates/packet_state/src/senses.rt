@@ -55,7 +55,7 @@ pub fn no_sense() -> Sense
     plain_sense(Key::NoSense, 0x00, 0x00)
 }
 
-// Of Nothing none is ever told: a packet is held only where one of the other two is pending.
+// No From, since each sense is asked for by its name. Of Nothing none is ever told: a packet is held only where one of the other two is pending.
 pub fn unit_attention(attention: Attention) -> Sense
     ensures { result ≡ unit_attention attention }
 {

@@ -9,6 +9,7 @@ use transfer::Moved;
 use transfer::marked::count_marked;
 
 // Blocks and bytes of those asked for that a run moved.
+// Of any header and place: each device has an end of its own, so what these ask stands in each contract.
 pub fn end_moved(
     state: State,
     asked: u32,

@@ -12,6 +12,7 @@ use packet_state::state::{Outcome, State};
 // Where the page's speed stands in a list: bytes 14-15 after the header.
 const LIST_SPEED: usize = 26;
 
+// Each byte by its name, as the definition tests them.
 #[tactic(auto, unfolding(crate::specs::Settings::good_list))]
 fn is_good_list(list: &[u8]) -> bool
     requires { 32 ≤ length list.now }

@@ -44,6 +44,7 @@ impl Drive {
         self.with_waiting(None).skip(w.code, value)
     }
 
+    // By the code, a number (codes.rt): a pattern names each way once, and a table of closures would be no shorter.
     #[tactic(auto, unfolding(crate::specs::Arguments::argument_taken))]
     fn take_argument(self, w: Waiting, value: u16) -> Self
         requires { in_range w.code value ≡ true }

@@ -6,6 +6,7 @@ use crate::drive::Drive;
 use pulse_codes::{ErrorNumber, Waiting, codes};
 
 impl Drive {
+    // By the code, a number (codes.rt): a pattern names each way once, and a table of closures would be no shorter.
     #[tactic(auto, unfolding(crate::specs::Commands::obeyed))]
     fn obey(self, code: u8) -> Self
         ensures { result ≡ obeyed self code }

@@ -33,6 +33,7 @@ impl Drive {
             .latch(ErrorNumber::IllegalInReport, codes::as_byte(n))
     }
 
+    // By the code, a number (codes.rt): a pattern names each way once, and a table of closures would be no shorter.
     #[tactic(auto, unfolding(crate::specs::Reports::report_of))]
     fn report_of(self, n: u16) -> Report
         ensures { result ≡ report_of self n }
@@ -74,6 +75,7 @@ impl Drive {
         self
     }
 
+    // By the code, as above.
     #[tactic(auto, unfolding(crate::specs::Reports::step_open_report))]
     pub(crate) fn step_open_report(self, n: u16) -> Self
         ensures { result ≡ step_open_report self n }

@@ -7,6 +7,7 @@ use crate::drive::Drive;
 use pulse_codes::{arguments, errors};
 use pulse_parts::{Cartridge, Fault, Head, Marks, Report};
 
+// These go over the parts that 01 names, not over the whole drive.
 fn in_ranges(c: Cartridge) -> bool
     ensures { result ≡ in_ranges c }
 {
@@ -28,6 +29,7 @@ fn head_inside(c: Cartridge, h: Head) -> bool
     in_ranges(c) & (h.place <= c.segments) & (h.target <= c.segments) & (h.track < c.tracks)
 }
 
+// Field by field: the rule asks nothing of the motion and of the asked mark here, so no ==.
 fn nothing_inside(c: Cartridge, h: Head, m: Marks) -> bool
     ensures { result ≡ nothing_inside c h m }
 {

@@ -23,6 +23,7 @@ impl Drive {
         drive
     }
 
+    // Two slices, as the C call lends them.
     #[tactic(auto, unfolding(crate::specs::Trains::trains_call), using(numbers::proofs::MemberLaws::is_any))]
     pub fn trains(self, counts: &[u16], levels: &mut [u8]) -> Result<Self, Refusal>
         ensures { TrainsPromise self counts.now levels.old (sent (told self result) levels.new) }

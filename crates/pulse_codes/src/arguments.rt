@@ -9,7 +9,7 @@ const HIGHEST_NIBBLE: u16 = 15;
 
 pub const HIGHEST_RATE: u16 = 3;
 
-// The arguments that a code waits for: how many are held, and their value, the first nibble lowest.
+// The arguments that a code waits for, as a host's record keeps them: how many are held, and their value, the first nibble lowest.
 #[derive(Clone, Copy, PartialEq, Eq)]
 pub struct Waiting {
     pub code: u8, // the record's byte: any until its rules are judged

@@ -21,7 +21,7 @@ const EXTRA_LENGTH: u8 = 2;
 
 const QIC_80: u8 = 2;
 
-// The items left, the bits not sent yet, the next one lowest, and whether a repeat is owed.
+// As a host's record keeps them: the items left, the bits not sent yet, the next one lowest, and whether a repeat is owed.
 // No Option: a record may owe a repeat with no report open, or have more items left than 17, until its rules are judged.
 #[derive(Clone, Copy, PartialEq, Eq)]
 pub struct Report {
@@ -94,6 +94,7 @@ impl Report {
 }
 
 // The bits are sixteen wide for each report: a record may hold any rate, format and type until its rules are judged.
+// Over the parts that 01 names: the drive is in a crate above.
 pub fn status_bits(h: Head, f: Fault, m: Marks, c: Cartridge) -> u16
     ensures { result ≡ status_bits h f m c }
 {

@@ -37,6 +37,7 @@ fn held_value(held: u8, value: u16) -> u16
     }
 }
 
+// Named functions: a host keeps these bytes, a From may ask nothing of a slice's length, and neither of its types would be this crate's.
 #[tactic(auto, unfolding(crate::specs::PulseRecord::waiting_of))]
 fn waiting_of(code: u8, held: u8, value: u16) -> Option<Waiting>
     ensures { result ≡ waiting_of code held value }
@@ -117,6 +118,7 @@ fn marks_byte(m: Marks, r: Report) -> u8
         + weight_of(r.repeat, 16)
 }
 
+// 32 bytes or more: an array type would ask for exactly 32, and decode_drive, which is public, takes any slice that is long enough.
 #[tactic(auto, unfolding(crate::specs::PulseRecord::cartridge_in))]
 fn cartridge_in(bytes: &[u8]) -> Cartridge
     requires { 32 ≤ length bytes.now }

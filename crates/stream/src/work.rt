@@ -32,11 +32,12 @@ use transfer::writing::{write_blocks, write_filemarks};
 use transfer::{Moved, Stop};
 
 #[tactic(auto, unfolding(crate::specs::Work::ending_of))]
-fn ending_of(h: Header, stop: Stop, left: u32) -> Ending
+fn ending_of(h: Header, moved: Moved) -> Ending
     requires { h.warning ≤ h.capacity }
-    ensures { result ≡ ending_of h stop left }
+    ensures { result ≡ ending_of h moved.stop moved.left }
 {
-    match stop {
+    let left = moved.left;
+    match moved.stop {
         Stop::Full => Ok(()),
         Stop::AtFilemark => Err(filemark_detected(left)),
         Stop::AtBadBlock => Err(unreadable_block(left)),
@@ -45,7 +46,7 @@ fn ending_of(h: Header, stop: Stop, left: u32) -> Ending
     }
 }
 
-// Header and place stand in each contract: no struct beside a lent image, which WRITE changes, could keep what they say of it.
+// Header, place and room stand in each contract: no struct beside a lent image and buffer, which the work changes, could keep what they say.
 #[tactic(auto, using(crate::proofs::WorkLaws::warning_within), unfolding(crate::specs::Work::read_work, crate::specs::Work::read_ends))]
 fn read(image: &[u8], h: Header, state: State, asked: u32, buf: &mut [u8]) -> Outcome<State>
     requires image_value { header_of image.now ≡ Some h }
@@ -54,7 +55,7 @@ fn read(image: &[u8], h: Header, state: State, asked: u32, buf: &mut [u8]) -> Ou
     ensures { done result image.now buf.new ≡ read_work image.now h state asked buf.old }
 {
     let moved = read_blocks(image, h, h.recorded, buf, asked, state.position);
-    let ending = ending_of(h, moved.stop, moved.left);
+    let ending = ending_of(h, moved);
     end_read(image, h, state, asked, moved, ending)
 }
 
@@ -100,6 +101,7 @@ fn write_marks(image: &mut [u8], h: Header, state: State, asked: u32, buf: &[u8]
     end_moved(state, asked, 0, moved, ending)
 }
 
+// Four runs by two tests: they take different things, so no closure stands for all.
 #[tactic(auto, unfolding(crate::specs::Work::space_run))]
 fn space_run(image: &[u8], h: Header, p: u32, code: u8, count: u32) -> Moved
     requires image_value { header_of image.now ≡ Some h }
@@ -121,7 +123,7 @@ pub fn end_space(h: Header, state: State, moved: Moved) -> Outcome<State>
     requires { h.warning ≤ h.capacity }
     ensures { result ≡ space_ends h state moved }
 {
-    let ending = ending_of(h, moved.stop, moved.left);
+    let ending = ending_of(h, moved);
     end(state.at_place(moved.place), ending, 0, 0)
 }
 
@@ -161,6 +163,7 @@ fn read_position(h: Header, state: State, buf: &mut [u8]) -> Outcome<State>
     reply(&position_bytes(h, state), POSITION_LENGTH, state, buf)
 }
 
+// asked: how many bytes of the lent buffer are the list, by the packet.
 #[tactic(auto, unfolding(crate::specs::Work::select_work))]
 fn mode_select(state: State, asked: u8, list: &[u8]) -> Outcome<State>
     requires { asked ≤ length list.now }

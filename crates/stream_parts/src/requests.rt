@@ -33,6 +33,7 @@ pub fn is_back(count: u32) -> bool
     HALF <= count
 }
 
+// A count of three bytes: no type of 24 bits says so, so the clause does.
 #[tactic(auto, unfolding(crate::specs::Requests::magnitude))]
 pub fn magnitude_of(count: u32) -> u32
     requires { count < 2 ^ 24 }

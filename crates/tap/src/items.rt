@@ -4,6 +4,7 @@ ghost use Rattle.tap.specs.Items.{record_at, item_at};
 
 use numbers::words::word_at;
 
+// Places and no slice: the definition tells an item by its places in the file.
 #[derive(Clone, Copy)]
 pub struct TapeRecord {
     pub from: usize, // where its bytes start
@@ -29,6 +30,7 @@ pub const END_MARK: u32 = 0xffffffff;
 pub const HIGH_BIT: u32 = 0x80000000;
 
 // What is left after the first word is compared, and not the place of the second: that could pass 64 bits.
+// The slice and a number: Reader, which 02, A7 asks for, ends here.
 #[tactic(auto, using(crate::proofs::ItemLaws::record_ways))]
 fn record_at(file: &[u8], at: usize, w: u32) -> Item
     requires { at + 4 ≤ length file.now }

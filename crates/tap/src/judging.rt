@@ -38,7 +38,7 @@ fn turn_of(item: Item, size: u16) -> Result<Turn, Refusal>
 pub fn judge(file: &[u8], size: u16, most: u32) -> Result<Found, Refusal>
     ensures { result ≡ found_from 0 (reads size file.now most 0) }
 {
-    let mut at: usize = 0;
+    let mut at: usize = 0; // a place in the file: each item tells the next
     for elements in 0..=most {
         match turn_of(read(file, at), size)? {
             Turn::Takes(next) => at = next,
