@@ -14,7 +14,7 @@ use packet_state::state::Told;
 use tap::items::{END_MARK, TAPE_MARK};
 use tap::writing::put_record;
 
-// Bytes of an element in a file: a word alone, or a block between two words.
+// Bytes of an element in a file: a word alone, or a block between two words; of any size that a header may have, so the clause says the bound.
 fn element_length(kind: Kind, size: u16) -> usize
     requires { size ≤ 1024 }
     ensures { (result ≡ length_of kind size) × (result ≤ 1032) }

@@ -1,5 +1,5 @@
 // 02, A4: an index of filemark places, in a second lent buffer, beside the packets of the stream device.
-// Image, index and header stay apart, and each function says what it asks of their lengths: a packet changes the first two, so no type could keep it.
+// Image, index and header stay apart: each function asks another length of them, and one type for all would ask the most of each.
 #![tactic(auto)]
 
 pub mod checking; // checking.rt: an index compared with a fresh one (refusals 9 and 10)

@@ -15,7 +15,7 @@ pub struct Request {
     pub length: u8, // byte 4
 }
 
-// A slice of twelve bytes: refusal 1 judges any slice, and stays on it.
+// A slice, since refusal 1 judges any length: past it the clause says twelve.
 #[tactic(auto, unfolding(crate::specs::Requests::request_under))]
 pub fn request_under(command: Command, packet: &[u8]) -> Request
     requires { length packet.now ≡ 12 }

@@ -31,7 +31,7 @@ impl Drive {
 
     const POWER_ON_RATE: u8 = 2;
 
-    // 01's two numbers of a power-on: a struct for them would be taken apart at once.
+    // Two numbers of two types: a struct for them would be taken apart at once.
     #[tactic(auto, unfolding(crate::specs::Drives::power_on))]
     pub fn power_on(vendor: u16, rom: u8) -> Self
         ensures { PowerOnPromise vendor rom result }

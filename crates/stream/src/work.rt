@@ -46,7 +46,7 @@ fn ending_of(h: Header, moved: Moved) -> Ending
     }
 }
 
-// Header, place and room stand in each contract: no struct beside a lent image and buffer, which the work changes, could keep what they say.
+// Header, place, count and room stand in each contract: no struct beside a lent image and buffer, which the work changes, could keep what they say.
 #[tactic(auto, using(crate::proofs::WorkLaws::warning_within), unfolding(crate::specs::Work::read_work, crate::specs::Work::read_ends))]
 fn read(image: &[u8], h: Header, state: State, asked: u32, buf: &mut [u8]) -> Outcome<State>
     requires image_value { header_of image.now ≡ Some h }
@@ -101,7 +101,7 @@ fn write_marks(image: &mut [u8], h: Header, state: State, asked: u32, buf: &[u8]
     end_moved(state, asked, 0, moved, ending)
 }
 
-// Four runs by two tests: they take different things, so no closure stands for all.
+// Four runs by two tests, each named once: the runs back take no end, so closures for the four would be no shorter.
 #[tactic(auto, unfolding(crate::specs::Work::space_run))]
 fn space_run(image: &[u8], h: Header, p: u32, code: u8, count: u32) -> Moved
     requires image_value { header_of image.now ≡ Some h }
