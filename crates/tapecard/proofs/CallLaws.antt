@@ -1,6 +1,6 @@
 -- What an engine leaves, as the bytes that a call leaves of it.
 -- Assumes nothing.
-use mathlib.Core.Path.{◌≡◌, refl, ap}
+use mathlib.Core.Path.{◌≡◌, refl, ap, ◌∙◌}
 use mathlib.Core.List.{List, []}
 use Prim.Native.Nat.{ℕ}
 use Rattle.std.specs.Prelude.{Result, Ok, Err}
@@ -26,14 +26,14 @@ use Rattle.pulse.specs.Calls.{told, told_wait, train_call, tick_call, insert_cal
 use Rattle.pulse.specs.Trains.{sent, trains_call}
 use Rattle.pulse_parts.specs.declared.cartridge.Cartridge.{Cartridge}
 use Rattle.packet_record.specs.PacketRecord.{decode_state, encode_state, encode_answer}
-use Rattle.tapecard.specs.Leaving.{record_left, answer_left, drive_left, waited_answer, at_once}
+use Rattle.tapecard.specs.Leaving.{Kept, kept, kept_of, waited_card, at_once}
 use Rattle.tapecard.specs.PacketCalls.{packet_card, packet_fresh, packet_change, packet_left, packet_call}
 use Rattle.tapecard.specs.IndexCalls.{index_told, index_card, made_left, indexed_left, index_make_call, index_packet_call}
 use Rattle.tapecard.specs.ExchangeCalls.{export_told, export_left, export_call, import_call}
 use Rattle.tapecard.specs.FloppyCalls.{floppy_card, floppy_told, floppy_left, floppy_packet_left}
 use Rattle.tapecard.specs.FloppyCalls.{floppy_fresh_call, floppy_change_call, floppy_packet_call}
 use Rattle.pulse_record.specs.PulseRecord.{decode_drive, encode_drive, described_cartridge, described_place}
-use Rattle.tapecard.specs.PulseCalls.{list_card, pulse_card, pulse_left, step_left, waited_left}
+use Rattle.tapecard.specs.PulseCalls.{PulseCard, list_card, pulse_card, pulse_left, step_left, waited_left}
 use Rattle.tapecard.specs.PulseCalls.{pulse_power_on, pulse_train, pulse_trains, pulse_tick, pulse_insert, pulse_remove, pulse_wait}
 
 -- ---- the packet drive, with an index and without, and an import
@@ -48,15 +48,15 @@ unfolding packet_change
 change_left s new old st q p e = rw (e, p, q)
 
 packet_bytes : (s : List ℕ) (st : State) (r : Result (Outcome State) Refusal) (image buf : List ℕ)
-    → packet_card (record_left encode_state s r) image buf (answer_left r) ≡ packet_left s (left st r image buf)
+    → packet_card (kept_of encode_state s r).state image buf (kept_of encode_state s r).answer ≡ packet_left s (left st r image buf)
 unfolding packet_left
 packet_bytes s st (Ok out) image buf = refl
 packet_bytes s st (Err r) image buf = rw (not_zero r)
 
 module _ (s : List ℕ) (st : State) (r : Result (Outcome State) Refusal) (s' image' buf' answer : List ℕ)
-    (q : st ≡ decode_state s) (kept : s' ≡ record_left encode_state s r) (told : answer ≡ answer_left r) where
+    (q : st ≡ decode_state s) (l : kept s' answer ≡ kept_of encode_state s r) where
   bytes : packet_card s' image' buf' answer ≡ packet_left s (left st r image' buf')
-  bytes = rw (kept, told) (packet_bytes s st r image' buf')
+  bytes = ap (λ (k : Kept). packet_card k.state image' buf' k.answer) l ∙ packet_bytes s st r image' buf'
 
   pub packet_call_left : (image packet buf : List ℕ) → left st r image' buf' ≡ packet_step image st packet buf
       → packet_card s' image' buf' answer ≡ packet_call s image packet buf
@@ -85,31 +85,35 @@ export_call_left image file file' answer r e w = rw (← e) (ap (λ x. export_to
 -- ---- the floppy tape device
 
 floppy_bytes : (s : List ℕ) (f : Floppy) (r : Result (Outcome Floppy) Refusal) (image buf : List ℕ)
-    → floppy_card (record_left encode_floppy s r) image buf (answer_left r) ≡ floppy_packet_left s (left f r image buf)
+    → floppy_card (kept_of encode_floppy s r).state image buf (kept_of encode_floppy s r).answer ≡ floppy_packet_left s (left f r image buf)
 unfolding floppy_packet_left
 floppy_bytes s f (Ok out) image buf = refl
 floppy_bytes s f (Err r) image buf = rw (not_zero r)
 
 floppy_two : (s : List ℕ) (f : Floppy) (r : Result (Outcome Floppy) Refusal) (image buf : List ℕ)
-    → floppy_told (record_left encode_floppy s r) (answer_left r) ≡ floppy_left s (left f r image buf)
+    → floppy_told (kept_of encode_floppy s r).state (kept_of encode_floppy s r).answer ≡ floppy_left s (left f r image buf)
 unfolding floppy_left
 floppy_two s f (Ok out) image buf = refl
 floppy_two s f (Err r) image buf = rw (not_zero r)
 
 module _ (s image : List ℕ) (f : Floppy) (r : Result (Outcome Floppy) Refusal) (s' answer : List ℕ)
-    (q : f ≡ decode_floppy s) (kept : s' ≡ record_left encode_floppy s r) (told : answer ≡ answer_left r) where
+    (q : f ≡ decode_floppy s) (l : kept s' answer ≡ kept_of encode_floppy s r) where
+  two : (image buf : List ℕ) → floppy_told s' answer ≡ floppy_left s (left f r image buf)
+  two image buf = ap (λ (k : Kept). floppy_told k.state k.answer) l ∙ floppy_two s f r image buf
+
   pub floppy_fresh_left : left f r image [] ≡ fresh_floppy image f → floppy_told s' answer ≡ floppy_fresh_call s image
   unfolding floppy_fresh_call
-  floppy_fresh_left e = rw (← q, ← e, kept, told) (floppy_two s f r image [])
+  floppy_fresh_left e = rw (← q, ← e) (two image [])
 
   pub floppy_change_left : left f r image [] ≡ changed_floppy image f → floppy_told s' answer ≡ floppy_change_call s image
   unfolding floppy_change_call
-  floppy_change_left e = rw (← q, ← e, kept, told) (floppy_two s f r image [])
+  floppy_change_left e = rw (← q, ← e) (two image [])
 
   pub floppy_call_left : (packet buf image' buf' : List ℕ) → left f r image' buf' ≡ floppy_step image f packet buf
       → floppy_card s' image' buf' answer ≡ floppy_packet_call s image packet buf
   unfolding floppy_packet_call
-  floppy_call_left packet buf image' buf' e = rw (← q, ← e, kept, told) (floppy_bytes s f r image' buf')
+  floppy_call_left packet buf image' buf' e =
+      rw (← q, ← e) (ap (λ (k : Kept). floppy_card k.state image' buf' k.answer) l ∙ floppy_bytes s f r image' buf')
 
 -- ---- the pulse drive
 
@@ -117,44 +121,44 @@ pub power_left : (new : List ℕ) (d : Drive) (vendor rom : ℕ) → d ≡ power
 unfolding pulse_power_on
 power_left new d vendor rom q e = rw (e, q)
 
-waited_bytes : (s : List ℕ) (d : Drive) (r : Result Passed Refusal) → pulse_card (drive_left s r) (waited_answer r) ≡ waited_left s (told_wait d r)
+waited_bytes : (s : List ℕ) (d : Drive) (r : Result Passed Refusal) → waited_card s r ≡ waited_left s (told_wait d r)
 unfolding pulse_left
 waited_bytes s d (Ok w) = refl
 waited_bytes s d (Err r) = rw (not_zero r)
 
-step_bytes : (s : List ℕ) (d : Drive) (r : Result Drive Refusal) → pulse_card (drive_left s (at_once r)) (waited_answer (at_once r)) ≡ step_left s (told d r)
+step_bytes : (s : List ℕ) (d : Drive) (r : Result Drive Refusal) → waited_card s (at_once r) ≡ step_left s (told d r)
 unfolding pulse_left
 step_bytes s d (Ok next) = refl
 step_bytes s d (Err r) = rw (not_zero r)
 
-module _ (s : List ℕ) (d : Drive) (r : Result Drive Refusal) (w : Result Passed Refusal) (s' answer : List ℕ) (q : d ≡ decode_drive s)
-    (once : w ≡ at_once r) (kept : s' ≡ drive_left s w) (tells : answer ≡ waited_answer w) where
-  step : pulse_card s' answer ≡ step_left s (told d r)
-  step = rw (kept, tells, once) (step_bytes s d r)
+module _ (s : List ℕ) (d : Drive) (r : Result Drive Refusal) (w : Result Passed Refusal) (card : PulseCard) (q : d ≡ decode_drive s)
+    (once : w ≡ at_once r) (l : card ≡ waited_card s w) where
+  step : card ≡ step_left s (told d r)
+  step = rw (l, once) (step_bytes s d r)
 
-  pub train_left : (n : ℕ) → told d r ≡ train_call d n → pulse_card s' answer ≡ pulse_train s n
+  pub train_left : (n : ℕ) → told d r ≡ train_call d n → card ≡ pulse_train s n
   unfolding pulse_train
   train_left n e = rw (← q, ← e) step
 
   pub trains_left : (counts levels levels' : List ℕ) → sent (told d r) levels' ≡ trains_call d counts levels
-      → list_card (pulse_card s' answer) levels' ≡ pulse_trains s counts levels
+      → list_card card levels' ≡ pulse_trains s counts levels
   unfolding pulse_trains
   trains_left counts levels levels' e = rw (← q, ← e) (ap (λ c. list_card c levels') step)
 
-  pub tick_left : told d r ≡ tick_call d → pulse_card s' answer ≡ pulse_tick s
+  pub tick_left : told d r ≡ tick_call d → card ≡ pulse_tick s
   unfolding pulse_tick
   tick_left e = rw (← q, ← e) step
 
   pub insert_left : (given : List ℕ) (cart : Cartridge) (place : ℕ) → cart ≡ described_cartridge given → place ≡ described_place given
-      → told d r ≡ insert_call d cart place → pulse_card s' answer ≡ pulse_insert s given
+      → told d r ≡ insert_call d cart place → card ≡ pulse_insert s given
   unfolding pulse_insert
   insert_left given cart place c p e = rw (← q, ← c, ← p, ← e) step
 
-  pub remove_left : told d r ≡ remove_call d → pulse_card s' answer ≡ pulse_remove s
+  pub remove_left : told d r ≡ remove_call d → card ≡ pulse_remove s
   unfolding pulse_remove
   remove_left e = rw (← q, ← e) step
 
-pub wait_left : (s : List ℕ) (d : Drive) (r : Result Passed Refusal) (s' answer : List ℕ) (limit : ℕ) → d ≡ decode_drive s → told_wait d r ≡ wait_call d limit
-    → s' ≡ drive_left s r → answer ≡ waited_answer r → pulse_card s' answer ≡ pulse_wait s limit
+pub wait_left : (s : List ℕ) (d : Drive) (r : Result Passed Refusal) (card : PulseCard) (limit : ℕ) → d ≡ decode_drive s → told_wait d r ≡ wait_call d limit
+    → card ≡ waited_card s r → card ≡ pulse_wait s limit
 unfolding pulse_wait
-wait_left s d r s' answer limit q e kept tells = rw (← q, ← e, kept, tells) (waited_bytes s d r)
+wait_left s d r card limit q e l = rw (← q, ← e, l) (waited_bytes s d r)

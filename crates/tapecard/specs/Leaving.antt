@@ -10,26 +10,27 @@ use Rattle.packet_record.specs.PacketRecord.{encode_answer}
 use Rattle.pulse.specs.declared.calls.Waited.{Waited}
 use Rattle.pulse.specs.declared.drive.Drive.{Drive}
 use Rattle.pulse_record.specs.PulseRecord.{encode_drive, encode_told}
+use Rattle.tapecard.specs.PulseCalls.{PulseCard, pulse_card}
 
 -- ---- a call of a packet device, or an import
 
-abbrev pub record_left : {R : Type 0} → (R → List ℕ) → List ℕ → Result (Outcome R) Refusal → List ℕ
-record_left spelled state (Ok out) = spelled out.state
-record_left spelled state (Err r) = state
+-- the bytes of the record and of the answer
+pub record Kept : Type 0 where
+  pub state : List ℕ
+  pub answer : List ℕ
 
-abbrev pub answer_left : {R : Type 0} → Result (Outcome R) Refusal → List ℕ
-answer_left (Ok out) = encode_answer (accepted out.answer)
-answer_left (Err r) = encode_answer (refusal (number_of r))
+abbrev pub kept : List ℕ → List ℕ → Kept
+kept state answer = record { state = state; answer = answer }
+
+abbrev pub kept_of : {R : Type 0} → (R → List ℕ) → List ℕ → Result (Outcome R) Refusal → Kept
+kept_of spelled state (Ok out) = kept (spelled out.state) (encode_answer (accepted out.answer))
+kept_of spelled state (Err r) = kept state (encode_answer (refusal (number_of r)))
 
 -- ---- a call of the pulse drive, with its ticks
 
-abbrev pub drive_left : List ℕ → Result Waited Refusal → List ℕ
-drive_left state (Ok w) = encode_drive w.drive
-drive_left state (Err r) = state
-
-abbrev pub waited_answer : Result Waited Refusal → List ℕ
-waited_answer (Ok w) = encode_told 0 w.drive.level w.ticks
-waited_answer (Err r) = encode_told (number_of r) false 0
+abbrev pub waited_card : List ℕ → Result Waited Refusal → PulseCard
+waited_card state (Ok w) = pulse_card (encode_drive w.drive) (encode_told 0 w.drive.level w.ticks)
+waited_card state (Err r) = pulse_card state (encode_told (number_of r) false 0)
 
 -- "4-7 ticks (0 but for the wait call)"
 abbrev pub at_once : Result Drive Refusal → Result Waited Refusal

@@ -3,7 +3,8 @@ ghost use Rattle.std.specs.Prelude.{◌≡◌, ℕ, List};
 ghost use Rattle.floppy_record.specs.FloppyRecord.{encode_floppy};
 ghost use Rattle.packet_record.specs.PacketRecord.{encode_state};
 ghost use Rattle.pulse_record.specs.PulseRecord.{encode_drive};
-ghost use Rattle.tapecard.specs.Leaving.{record_left, answer_left, drive_left, waited_answer};
+ghost use Rattle.tapecard.specs.Leaving.{kept, kept_of, waited_card};
+ghost use Rattle.tapecard.specs.PulseCalls.{pulse_card};
 
 use floppy_parts::tape::Floppy;
 use floppy_record::encode_floppy;
@@ -51,8 +52,7 @@ pub fn leave<const N: usize, R: InBytes<N>>(
     answer: &mut [u8; 16],
     left: Result<Outcome<R>, Refusal>,
 )
-    ensures state_after { state.new ≡ record_left R.spelled state.old left }
-    ensures answer_after { answer.new ≡ answer_left left }
+    ensures { kept state.new answer.new ≡ kept_of R.spelled state.old left }
 {
     match left {
         Ok(out) => {
@@ -65,8 +65,7 @@ pub fn leave<const N: usize, R: InBytes<N>>(
 
 // The same of a pulse call, with the ticks that it took.
 pub fn leave_waited(state: &mut [u8; 32], answer: &mut [u8; 8], left: Result<Waited, Refusal>)
-    ensures state_after { state.new ≡ drive_left state.old left }
-    ensures answer_after { answer.new ≡ waited_answer left }
+    ensures { pulse_card state.new answer.new ≡ waited_card state.old left }
 {
     match left {
         Ok(waited) => {

@@ -27,6 +27,7 @@ pub fn tapecard_pulse_power_on(state: &mut [u8; 32], vendor: u16, rom: u8)
     *state = encode_drive(Drive::power_on(vendor, rom));
 }
 
+#[tactic(auto, using(crate::proofs::CallLaws::train_left))]
 pub fn tapecard_pulse_train(state: &mut [u8; 32], pulses: u16, answer: &mut [u8; 8])
     ensures { PulseTrainPromise state.old pulses (pulse_card state.new answer.new) }
 {
@@ -47,6 +48,7 @@ pub fn tapecard_pulse_trains(
     leave_waited(state, answer, at_once(left)); // with the level after the last train
 }
 
+#[tactic(auto, using(crate::proofs::CallLaws::tick_left))]
 pub fn tapecard_pulse_tick(state: &mut [u8; 32], answer: &mut [u8; 8])
     ensures { PulseTickPromise state.old (pulse_card state.new answer.new) }
 {
@@ -54,6 +56,7 @@ pub fn tapecard_pulse_tick(state: &mut [u8; 32], answer: &mut [u8; 8])
     leave_waited(state, answer, at_once(left));
 }
 
+#[tactic(auto, using(crate::proofs::CallLaws::insert_left))]
 pub fn tapecard_pulse_insert(state: &mut [u8; 32], cartridge: &[u8; 8], answer: &mut [u8; 8])
     ensures { PulseInsertPromise state.old cartridge.now (pulse_card state.new answer.new) }
 {
@@ -63,6 +66,7 @@ pub fn tapecard_pulse_insert(state: &mut [u8; 32], cartridge: &[u8; 8], answer: 
     leave_waited(state, answer, at_once(left));
 }
 
+#[tactic(auto, using(crate::proofs::CallLaws::remove_left))]
 pub fn tapecard_pulse_remove(state: &mut [u8; 32], answer: &mut [u8; 8])
     ensures { PulseRemovePromise state.old (pulse_card state.new answer.new) }
 {
@@ -70,6 +74,7 @@ pub fn tapecard_pulse_remove(state: &mut [u8; 32], answer: &mut [u8; 8])
     leave_waited(state, answer, at_once(left));
 }
 
+#[tactic(auto, using(crate::proofs::CallLaws::wait_left))]
 pub fn tapecard_pulse_wait(state: &mut [u8; 32], limit: u32, answer: &mut [u8; 8])
     ensures { PulseWaitPromise state.old limit (pulse_card state.new answer.new) }
 {

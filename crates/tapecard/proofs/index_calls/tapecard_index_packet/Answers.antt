@@ -3,5 +3,4 @@ use Rattle.tapecard.proofs.CallLaws.{index_call_left}
 use Rattle.tapecard.proofs.index_calls.tapecard_index_packet.Goals as goal
 
 pub returns : goal.returns
-returns c =
-    index_call_left _ _ _ _ _ _ _ c.decode_state.ensures c.leave.ensures.state_after c.leave.ensures.answer_after _ _ _ _ _ c.packet-left.ensures
+returns c = index_call_left _ _ _ _ _ _ _ c.decode_state.ensures c.leave.ensures _ _ _ _ _ c.packet-left.ensures

@@ -3,5 +3,4 @@ use Rattle.tapecard.proofs.CallLaws.{packet_call_left}
 use Rattle.tapecard.proofs.packet_calls.tapecard_packet.Goals as goal
 
 pub returns : goal.returns
-returns c =
-    packet_call_left _ _ _ _ _ _ _ c.decode_state.ensures c.leave.ensures.state_after c.leave.ensures.answer_after _ _ _ c.packet-left.ensures
+returns c = packet_call_left _ _ _ _ _ _ _ c.decode_state.ensures c.leave.ensures _ _ _ c.packet-left.ensures

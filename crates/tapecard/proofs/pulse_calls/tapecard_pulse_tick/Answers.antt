@@ -1,7 +1,0 @@
--- `pulse_calls::tapecard_pulse_tick` meets its contract.
-use Rattle.tapecard.proofs.CallLaws.{tick_left}
-use Rattle.tapecard.proofs.pulse_calls.tapecard_pulse_tick.Goals as goal
-
-pub returns : goal.returns
-returns c =
-    tick_left _ _ _ _ _ _ c.decode_drive.ensures c.at_once.ensures c.leave_waited.ensures.state_after c.leave_waited.ensures.answer_after c.tick-left.ensures
