@@ -1,9 +1,7 @@
 -- Rulesets for `search`: a result that a definition gives by a choice, and tests joined by and, or, not.
 -- Assumes nothing.
-use Prim.Native.Nat.{ℕ}
 use mathlib.Core.Bool.{Bool, true, false, not, cond, ◌&&◌, ◌||◌}
 use borrow.Author.Tests.{lt-ltb, le-ltb, le-leb, lt-leb, eq-eqb, ne_eqb}
-use lib.Dec.{ltb}
 use mathlib.Core.Path.{◌≡◌, sym, ◌∙◌}
 
 pub if_true : {A : Type 0} (b : Bool) (x y r : A) → b ≡ true → r ≡ x → r ≡ cond b x y
@@ -23,9 +21,6 @@ or_path a b x y p q = rw (p, q)
 
 pub not_path : (a x : Bool) → a ≡ x → not a ≡ not x
 not_path a x p = rw p
-
-pub ltb_path : (a b x y : ℕ) → a ≡ x → b ≡ y → ltb a b ≡ ltb x y
-ltb_path a b x y p q = rw (p, q)
 
 pub ruleset bools = (and_path, or_path, not_path)
 
