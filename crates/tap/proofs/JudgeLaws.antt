@@ -4,13 +4,15 @@ use mathlib.Core.Path.{◌≡◌, refl, sym, ◌∙◌}
 use mathlib.Core.List.{List}
 use Prim.Native.Nat.{ℕ, zero, suc, ◌+◌, ◌-◌, ◌<◌, ◌≤◌}
 use native.Mathlib.Omega.{arith}
+use borrow.Author.Tests.{ne_eqb}
 use lib.Dec.{eqb}
 use lib.ListN.{length}
 use Rattle.std.specs.Prelude.{Result, Ok, Err}
 use Rattle.numbers.specs.declared.refusals.Refusal.{Refusal}
-use Rattle.numbers.specs.declared.refusals.Refusal.TheVariants.{TooManyItems}
+use Rattle.numbers.specs.declared.refusals.Refusal.TheVariants.{OtherLength, TooManyItems}
 use Rattle.numbers.proofs.Cases.{test}
 use Rattle.tap.specs.declared.items.Item.{Item}
+use Rattle.tap.specs.declared.items.TapeRecord.{TapeRecord}
 use Rattle.tap.specs.declared.items.Item.TheVariants.{Ends, Mark, Record, Cut}
 use Rattle.tap.specs.declared.judging.Found.{Found}
 use Rattle.tap.specs.declared.judging.Turn.{Turn}
@@ -26,6 +28,11 @@ abbrev pub goes_on : ℕ → Result Turn Refusal → (ℕ → Result Found Refus
 goes_on n (Ok (Takes next)) on = on next
 goes_on n (Ok (Stops used)) on = Ok (record { elements = n; used = used })
 goes_on n (Err reason) on = Err reason
+
+-- "12, record not B bytes"
+pub record_other : (size : ℕ) (r : TapeRecord) → (r.length ≡ size → ⊥) → Err OtherLength ≡ turn_of size (Record r)
+unfolding turn_of
+record_other size r n = rw (ne_eqb r.length size n)
 
 module _ (size : ℕ) (file : List ℕ) where
   found_first : (n : ℕ) (e : Element) (x : Reading) → found_from n (with_first e x) ≡ found_from (n + 1) x
