@@ -28,6 +28,7 @@ impl Drive {
     }
 
     // What the call answers: number and level are printed, and of a refused call whether it left the record as it was.
+    // plates compares its card in the same way, but prints other things before and after: no more than the test is alike.
     fn answered<F: FnOnce(&mut [u8; 32], &mut [u8; 8])>(
         &mut self,
         rt: &impl Print,

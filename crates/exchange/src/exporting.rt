@@ -25,7 +25,7 @@ fn element_length(kind: Kind, size: u16) -> usize
     size as usize + 8
 }
 
-// image and header are two parameters: tied in one type, their clauses are no shorter, and an import, which changes its image, could not use it
+// Image and header are two parameters: a type that ties them could not serve an import too, which changes its image.
 #[tactic(auto, using(crate::proofs::ExportLaws::measure_start))]
 fn export_length(image: &[u8], h: Header) -> usize
     requires { header_of image.now ≡ Some h }
@@ -38,7 +38,7 @@ fn export_length(image: &[u8], h: Header) -> usize
     n
 }
 
-// Element i from place `at` of the file on; the answer is the place after it.
+// Element i from place `at` of the file on; the answer is the place after it, since elements differ in length.
 #[tactic(auto, using(crate::proofs::ExportLaws::put_ways))]
 fn put_element(image: &[u8], h: Header, i: u32, file: &mut [u8], at: usize) -> usize
     requires image_value { header_of image.now ≡ Some h }

@@ -15,7 +15,7 @@ use tap::items::Item;
 use tap::judging::judge;
 use tap::reader::read;
 
-// The item at place `at` of a file that was judged becomes element i; the answer is the place after it.
+// The item at place `at` of a file that was judged becomes element i; the answer is the place after it, which only the item tells.
 // Image and header are two parameters: an import changes the image that the header was read from.
 #[tactic(auto, using(crate::proofs::ImportLaws::item_ways))]
 fn store_item(image: &mut [u8], h: Header, i: u32, file: &[u8], at: usize) -> usize

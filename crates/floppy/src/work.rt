@@ -40,7 +40,7 @@ fn read_ending(moved: Moved) -> Ending
     }
 }
 
-// Header, place and room stand in each contract: no struct beside a lent image and buffer, which the work changes, could keep what they say.
+// Image and buffer are lent, and the header is one that was read from the image: so each contract says what it asks of header, place and room.
 #[tactic(auto, using(crate::proofs::WorkLaws::end_bound), unfolding(crate::specs::Work::read_work, crate::specs::Work::read_ends))]
 fn read(image: &[u8], h: Header, floppy: Floppy, asked: u8, buf: &mut [u8]) -> Outcome<State>
     requires passed { Passed image.now h floppy.shared floppy.tape }
@@ -87,7 +87,7 @@ const UNASSIGNED: u8 = 0x1F;
 // 004, byte 4 of the device page: FTM, in floppy tape mode.
 const FLOPPY_MODE: u8 = 0x02;
 
-// By a byte of the packet: a pattern names each way once, as a table of closures would not.
+// Three ways by a byte of the packet: a pattern; a table of closures would have to be searched for the byte.
 fn mode_sense(h: Header, floppy: Floppy, q: Request, buf: &mut [u8]) -> Outcome<State>
     requires { min q.length (mode_length q) ≤ length buf.old }
     ensures value { result ≡ reply_ends (mode_bytes h floppy.shared floppy.tape q) q.length floppy.shared }
@@ -127,7 +127,8 @@ fn select_tape(h: Header, state: State, list: &[u8]) -> Outcome<State>
     end(state.at_place(place), Ok(()), 0, TAPE_LIST as u32)
 }
 
-// asked: how many bytes of the lent buffer are the list, by the packet. By that number a pattern names each way once, as a table of closures would not.
+// The buffer may be longer than the list: how long the list is the packet says (asked), and the definition has both.
+// Three ways by that number: a pattern; a table of closures would have to be searched for it.
 #[tactic(auto, unfolding(crate::specs::Work::select_work))]
 fn mode_select(h: Header, state: State, asked: u8, list: &[u8]) -> Outcome<State>
     requires capacity_bound { h.capacity ≤ 65535 }

@@ -51,7 +51,7 @@ fn asked_by(h: Header, end: u32, q: Request) -> Asked
     }
 }
 
-// Header, record and request apart, as a packet device has them.
+// Header, record and request apart, as PacketDevice hands them over (packet_parts, shell.rt, says why).
 pub fn verdict(h: Header, state: State, end: u32, q: Request, room: usize) -> Verdict
     ensures { result ≡ verdict_by (asked_by q.command h end q) (is_protected h) state room }
 {

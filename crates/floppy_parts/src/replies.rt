@@ -47,7 +47,7 @@ pub fn tape_page(tape: Tape) -> [u8; 16]
     bytes
 }
 
-// Laid as device_mode lays its own: one function for both would ask that two lengths make a third, at more length than these copies.
+// Laid as device_mode lays its own: a function for both would need a clause that two lengths make a third, and be no shorter.
 pub fn tape_mode(h: Header, tape: Tape) -> [u8; 28]
     ensures { result ≡ tape_mode h tape }
 {

@@ -13,7 +13,7 @@ use packet_parts::replies::SHORT_LIST;
 use packet_parts::requests::Request;
 
 // Two bytes by name, of a page of its own, and a test of its own: no more than the form is alike in is_good_list.
-// Of any header and list: what these ask is what refusals 2 and 4 have judged, and no type keeps it; the header is the image's and the tape the record's.
+// Of any header and list, as docs/PROMISES.md has it: refusals 2 and 4 have judged both; the header is the image's, the tape the record's.
 #[tactic(auto, unfolding(crate::specs::Settings::good_tape_list))]
 pub fn is_good_tape_list(h: Header, list: &[u8]) -> bool
     requires { 28 ≤ length list.now }
@@ -24,7 +24,7 @@ pub fn is_good_tape_list(h: Header, list: &[u8]) -> bool
         & (Tape::listed(list).product() <= h.capacity as u64)
 }
 
-// asked: how many bytes of the lent buffer are the list, by the packet.
+// The buffer may be longer than the list: how long the list is the packet says (asked), and the definition has both.
 #[tactic(auto, unfolding(crate::specs::Settings::selected_tape))]
 fn selected_tape(h: Header, tape: Tape, asked: u8, list: &[u8]) -> Tape
     requires { asked ≤ length list.now }

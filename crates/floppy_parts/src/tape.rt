@@ -36,7 +36,7 @@ pub struct Floppy {
 }
 
 impl Reported {
-    // The flags that a byte spells, and the rest 0.
+    // The flags that a byte spells, and the rest 0: no From, since the byte says nothing of the rest.
     pub fn flagged(flags: u8) -> Reported
         ensures { result ≡ reported_of 0 0 0 0 0 flags }
     {

@@ -10,7 +10,7 @@ use numbers::counts::{count2, put_count2};
 use packet_record::{decode_state, encode_state};
 
 // The fields of a list's page at other places, here and in encode_tape: nine places as parameters would be no plainer.
-// Named functions: a host keeps these bytes, a From may ask nothing of a slice's length, and neither of its types would be this crate's.
+// Functions by name and no From: a From may ask nothing of a slice's length, and no type here would be this crate's own.
 #[tactic(auto, unfolding(crate::specs::FloppyRecord::decode_tape))]
 fn decode_tape(bytes: &[u8]) -> Tape
     requires { 32 ≤ length bytes.now }
@@ -32,7 +32,7 @@ fn decode_tape(bytes: &[u8]) -> Tape
     }
 }
 
-// 32 bytes or more: an array type would ask for exactly 32.
+// A slice of 32 bytes or more: this is public, so an array type, which has exactly 32, would ask more of its callers.
 #[tactic(auto, unfolding(crate::specs::FloppyRecord::decode_floppy))]
 pub fn decode_floppy(bytes: &[u8]) -> Floppy
     requires { 32 ≤ length bytes.now }

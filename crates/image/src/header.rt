@@ -97,7 +97,7 @@ fn keeps_ranges(h: Header) -> bool
 }
 
 // K + C and D + C*B can pass 32 bits, so they are summed in the 64 of a place in the image.
-// Asked of a header that keeps its ranges.
+// Asked only of a header that keeps its ranges: no type says that before header_of has judged, so the clause does.
 fn keeps_places(h: Header, n: usize) -> bool
     requires { (h.capacity ≤ 65535) × (h.size ≤ 1024) }
     ensures { result ≡ all_hold (place_rules h n) }

@@ -72,7 +72,7 @@ fn put_marks(image: &[u8], h: Header, p: u32, end: u32, index: &mut [u8], first:
 }
 
 // The entries from `first` to `last` become FFh.
-// Entry by entry, since the promise is in entries: fill would put bytes, and asks that first is at most last.
+// Entry by entry, as the promise has it: fill needs a range, so first at most last, which a WRITE FILEMARK may not leave.
 fn put_blanks(index: &mut [u8], first: u32, last: u32)
     requires { (4 * last ≤ length index.old) × (last ≤ 65535) }
     ensures { index.new ≡ over index.old (4 * first) (entry_bytes (replicate (last - first) no_filemark)) }

@@ -1,5 +1,5 @@
 // 02, A4: an index of filemark places, in a second lent buffer, beside the packets of the stream device.
-// Image, index and header stay apart: each function asks another length of them, and one type for all would ask the most of each.
+// Image, index and header stay apart: what is asked of lengths, places, entries and a count differs from call to call, so each contract says its own.
 #![tactic(auto)]
 
 pub mod checking; // checking.rt: an index compared with a fresh one (refusals 9 and 10)

@@ -7,7 +7,7 @@ use image::header::Header;
 use stream_parts::requests::{is_back, magnitude_of};
 use transfer::{Moved, Stop, halt};
 
-// Two ways, from two ends of the entries: what is ahead is counted from the end, what is behind from the first.
+// Two functions: on, a run ends past its filemark or at the end of data; back, on it or at the beginning.
 #[tactic(auto, unfolding(crate::specs::Spacing::on_by_entries))]
 fn on_by_entries(index: &[u8], before: u32, all: u32, end: u32, n: u32, p: u32) -> Moved
     requires before_le_all { (before ≤ all) × (4 * all ≤ length index.now) × (all ≤ 65535) × (end ≤ 65535) }

@@ -3,7 +3,7 @@
 ghost use Rattle.std.specs.Prelude.{◌≡◌, ◌+◌, ◌*◌, ◌/◌, ◌%◌, ◌^◌, ◌<◌, ◌≤◌, length};
 ghost use Rattle.numbers.specs.Counts.{count_at, put_count};
 
-// Each width is a function of its own: it gives a type of its own, and 02, A9 has the next width made of the one below.
+// Each width is a function of its own: 02, A9 wants "smaller temporaries", and one function for all would hold two bytes in 32 bits too.
 
 // ---- two bytes joined, and split again
 

@@ -1,5 +1,5 @@
 // Flag bits in a byte, each by its weight: 1 for bit 0, 2 for bit 1, 4 for bit 2.
-// By division and addition, as 02, A9 wants of counts; a product with a bool as a number would ask for a bound that the choice does not.
+// By division, and by a choice where a flag is stored: for 02, A9 nothing here shifts or masks (reading A9.2).
 ghost use Rattle.std.specs.Prelude.{◌≡◌, ◌<◌, ◌≤◌};
 ghost use Rattle.numbers.specs.Flags.{is_set, weight_of};
 

@@ -19,6 +19,7 @@ pub enum Refusal {
     TooManyItems = 13, // 02, A7
 }
 
+// By From, since docs/PROMISES.md names this conversion.
 impl From<Refusal> for u8 {
     ghost from_gives = { λ refusal number. number ≡ number_of refusal };
 

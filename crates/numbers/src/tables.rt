@@ -1,4 +1,4 @@
-// A number looked for in a table: the speeds.
+// A speed looked for in its table, under the name that docs/PROMISES.md has; a table of bytes is searched by `contains` itself.
 ghost use Rattle.std.specs.Prelude.{◌≡◌};
 ghost use Rattle.numbers.specs.Member.{is_in};
 

@@ -23,7 +23,7 @@ pub enum Command {
     PreventAllow, // 1Eh
 }
 
-// 01 asks for tables of classes, and so for numbers; each device has its own, and `From<u8>` is what the two share.
+// 01 asks for a table of 256 classes: by number it takes nine lines, by name it would take many more. Each device has its own; From<u8> is what they share.
 const STREAM_CLASSES: [u8; 256] = [
     1, 2, 0, 3, 0, 0, 0, 0, 4, 0, 5, 0, 0, 0, 0, 0, 6, 7, 8, 0, 0, 9, 0, 0, 0, 0, 10, 11, 0, 0, 14,
     0, 0, 0, 0, 0, 0, 0, 0, 0, 0, 0, 0, 12, 0, 0, 0, 0, 0, 0, 0, 0, 13, 0, 0, 0, 0, 0, 0, 0, 0, 0,

@@ -10,7 +10,7 @@ pub const GOOD: u8 = 0;
 
 const CHECK_CONDITION: u8 = 2;
 
-// From here on one Told; its callers have the numbers apart.
+// Makes the Told: blocks and bytes come as two numbers, since each caller counts them apart.
 pub fn told(status: u8, blocks: u32, bytes: u32) -> Told
     ensures { result ≡ told status blocks bytes }
 {

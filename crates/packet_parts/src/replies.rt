@@ -100,7 +100,7 @@ pub fn device_page(h: Header, state: State, byte4: u8, unit: u16) -> [u8; 20]
 }
 
 // The first of some bytes go to the start of the host's buffer.
-// The room for it was judged before (4), so each reply asks for its own; what is asked for is a number of the packet.
+// Refusal 4 has judged the room, so each reply asks for its own; how many bytes the host asked for is a number of its packet.
 pub fn reply(bytes: &[u8], asked: u8, state: State, buf: &mut [u8]) -> Outcome<State>
     requires { min asked (length bytes.now) ≤ length buf.old }
     ensures { (result ≡ reply_ends bytes.now asked state) × (buf.new ≡ replied_into bytes.now asked buf.old) }

@@ -15,7 +15,7 @@ pub struct Request {
     pub length: u8, // byte 4
 }
 
-// A slice, since refusal 1 judges any length: past it the clause says twelve.
+// A slice and its clause: refusal 1 has judged the length, and an array made here would only be read.
 #[tactic(auto, unfolding(crate::specs::Requests::request_under))]
 pub fn request_under(command: Command, packet: &[u8]) -> Request
     requires { length packet.now ≡ 12 }

@@ -14,7 +14,7 @@ use packet_state::state::{Outcome, Sense, Verdict};
 const PACKET_LENGTH: usize = 12;
 
 // The parts of a device that are its own, each held to the device that specs/ says it is.
-// Image, record and buffer are lent one by one, as a host lends them: a struct of the three would be made only to be taken apart.
+// Image, record and buffer come one by one, as a host has them: a struct of the three would be made only to be taken apart.
 pub trait PacketDevice {
     type Record: Copy;
 

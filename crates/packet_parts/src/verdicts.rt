@@ -9,7 +9,7 @@ use packet_state::senses::{
 };
 use packet_state::state::{Attention, State, Verdict};
 
-// What a command asks before its work. `known` is one of the tests, the second in 01's order, so a packet without a command has all of these too.
+// What a command asks before its work. No Option for an unknown opcode: attention comes first (01), and exempt is asked for that.
 #[derive(Clone, Copy)]
 pub struct Asked {
     pub known: bool, // a command of the device

@@ -10,7 +10,7 @@ use numbers::flags::{is_set, weight_of};
 use numbers::refusals::Refusal;
 use packet_state::state::{Attention, Sense, State, Told};
 
-// Named functions: a host keeps these bytes, a From may ask nothing of a slice's length, and neither of its types would be this crate's.
+// Functions by name and no From: a From may ask nothing of a slice's length, and no type here would be this crate's own.
 #[tactic(auto, unfolding(crate::specs::PacketRecord::decode_state))]
 pub fn decode_state(bytes: &[u8]) -> State
     requires { 16 ≤ length bytes.now }
@@ -57,7 +57,7 @@ pub fn encode_state(state: State) -> [u8; 16]
     bytes
 }
 
-// An answer with this number, for any that a host may be told.
+// Of any number and any Told, since the number is a byte of the C answer; encode_answer, of what calls give, is over it.
 #[tactic(auto, unfolding(crate::specs::PacketRecord::encode_answer))]
 pub fn encode_numbered(number: u8, told: Told) -> [u8; 16]
     ensures { result ≡ encode_answer (numbered number told) }

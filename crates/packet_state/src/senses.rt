@@ -47,7 +47,7 @@ fn stop_sense(key: Key, asc: u8, ascq: u8, filemark: bool, eom: bool, left: u32)
     }
 }
 
-// Each sense by its name, a line over one of the two above: what differs is the numbers that 003 gives it.
+// Each sense by its name, a line over one of the two above: what differs is the values that 01 and 02 give it.
 
 pub fn no_sense() -> Sense
     ensures { result ≡ no_sense }

@@ -66,7 +66,7 @@ pub struct Outcome<R> {
 // How a packet that is answered ends: GOOD, or CHECK CONDITION with this sense.
 pub type Ending = Result<(), Sense>;
 
-// What is found before the work. No Result: a refusal and an ending are two kinds of answer, and the work gives nothing yet.
+// What is found before the work: three ways on, each by its name. As Result<Ending, Refusal> the last would be Ok(Ok(())), which says GOOD.
 #[derive(Clone, Copy)]
 pub enum Verdict {
     Refuses(Refusal),

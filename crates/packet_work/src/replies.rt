@@ -11,7 +11,7 @@ use packet_state::state::{Outcome, State};
 // The length after itself, in the first byte of a mode header with the device page.
 const AFTER_FULL: u8 = 31;
 
-// A line for each command over reply, which is what they share: only the bytes differ. Each asks for its own room, as reply does.
+// Over reply, which is what they share: only the bytes differ. Each asks for its own room, as reply does.
 
 pub fn request_sense(state: State, asked: u8, buf: &mut [u8]) -> Outcome<State>
     requires { (state.sense.key ≤ 15) × (min asked 20 ≤ length buf.old) }

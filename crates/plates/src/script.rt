@@ -39,7 +39,7 @@ fn show_part(rt: &impl Print, src: &[u8], bytes: &[u8]) -> io::Result<()> {
     println!(rt; "{part}")
 }
 
-// One match by letter: its arms take different bytes, which a table of closures would have to hide.
+// One match by letter: its arms change or print different parts of the card, and a table of closures would be no shorter.
 pub fn obey(rt: &impl Print, card: &mut Card, letter: u8, spelled: &[u8]) -> io::Result<()> {
     let read = bytes_of(spelled);
     let bytes = read.as_slice();

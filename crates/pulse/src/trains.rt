@@ -10,6 +10,7 @@ use numbers::refusals::Refusal;
 
 impl Drive {
     // The rules are not judged again on the way: a train keeps them.
+    // 01: "A lent slice of u16 counts, read beside a written byte slice of levels."
     fn send(self, counts: &[u16], levels: &mut [u8]) -> Self
         requires { length counts.now ≤ length levels.old }
         ensures value { result ≡ after_list self counts.now }
@@ -23,7 +24,6 @@ impl Drive {
         drive
     }
 
-    // Two slices, as the C call lends them.
     #[tactic(auto, unfolding(crate::specs::Trains::trains_call), using(numbers::proofs::MemberLaws::is_any))]
     pub fn trains(self, counts: &[u16], levels: &mut [u8]) -> Result<Self, Refusal>
         ensures { TrainsPromise self counts.now levels.old (sent (told self result) levels.new) }

@@ -17,7 +17,7 @@ pub struct Waiting {
     pub value: u16,
 }
 
-// 000, table 2b: how many arguments each code takes, by code.
+// 000, table 2b: how many arguments each code takes, by code; 01 asks for a short constant table of them.
 const ARGUMENT_COUNTS: [u8; 36] = [
     0, 0, 0, 0, 0, 0, 0, 0, 0, 0, 0, 0, 0, 1, 0, 0, 0, 0, 0, 0, 0, 0, 0, 0, 0, 2, 2, 1, 0, 0, 0, 0,
     0, 0, 3, 3,

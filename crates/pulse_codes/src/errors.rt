@@ -15,6 +15,7 @@ pub enum ErrorNumber {
     SoftwareReset = 27,
 }
 
+// By From, since docs/PROMISES.md names this conversion.
 impl From<ErrorNumber> for u8 {
     ghost from_gives = { λ error byte. byte ≡ error_byte error };
 
@@ -23,7 +24,7 @@ impl From<ErrorNumber> for u8 {
     }
 }
 
-// 01: "error 0, 1, 2, 6, 7, 8, 13, 19, 26 or 27", and by 01's place a short constant table.
+// 01: "error 0, 1, 2, 6, 7, 8, 13, 19, 26 or 27"; under "Forms by place" it asks for a short constant table of them.
 const ADMITTED: [u8; 10] = [0, 1, 2, 6, 7, 8, 13, 19, 26, 27];
 
 #[tactic(auto, using(numbers::proofs::MemberLaws::is_any))]

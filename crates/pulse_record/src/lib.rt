@@ -1,4 +1,5 @@
 // The pulse drive's record, cartridge description and answer in bytes.
+// Functions by name and no From: some take several values or ask for a length, and no type here would be this crate's own.
 #![tactic(auto)]
 
 ghost use Rattle.std.specs.Prelude.{◌≡◌, ◌%◌, ◌^◌, ◌≤◌, length};
@@ -12,7 +13,7 @@ use pulse::Drive;
 use pulse_codes::Waiting;
 use pulse_parts::{Cartridge, Fault, Head, Marks, Motion, Report};
 
-// 01, report bits: "read and written as 0 where no report is open".
+// docs/INTERFACE.md, bytes 18-19: "0 where no report is open"; what a host left there is not read.
 #[tactic(auto, unfolding(crate::specs::PulseRecord::unsent))]
 fn unsent(left: u8, bits: u16) -> u16
     ensures { result ≡ unsent left bits }
@@ -37,7 +38,6 @@ fn held_value(held: u8, value: u16) -> u16
     }
 }
 
-// Named functions: a host keeps these bytes, a From may ask nothing of a slice's length, and neither of its types would be this crate's.
 #[tactic(auto, unfolding(crate::specs::PulseRecord::waiting_of))]
 fn waiting_of(code: u8, held: u8, value: u16) -> Option<Waiting>
     ensures { result ≡ waiting_of code held value }
@@ -118,7 +118,7 @@ fn marks_byte(m: Marks, r: Report) -> u8
         + weight_of(r.repeat, 16)
 }
 
-// 32 bytes or more: an array type would ask for exactly 32, and decode_drive, which is public, takes any slice that is long enough.
+// A slice of 32 bytes or more: decode_drive is public, so an array type, which has exactly 32, would ask more of its callers.
 #[tactic(auto, unfolding(crate::specs::PulseRecord::cartridge_in))]
 fn cartridge_in(bytes: &[u8]) -> Cartridge
     requires { 32 ≤ length bytes.now }
@@ -225,7 +225,7 @@ pub fn encode_drive(d: Drive) -> [u8; 32]
     ]
 }
 
-// An answer with this number, for any that a host may be told.
+// The number is a byte of the C answer; the Result is taken apart where the record is written too (tapecard, leave_waited).
 #[tactic(auto, unfolding(crate::specs::PulseRecord::encode_told))]
 pub fn encode_told(number: u8, level: bool, ticks: u32) -> [u8; 8]
     ensures { result ≡ encode_told number level ticks }

@@ -46,7 +46,7 @@ fn ending_of(h: Header, moved: Moved) -> Ending
     }
 }
 
-// Header, place, count and room stand in each contract: no struct beside a lent image and buffer, which the work changes, could keep what they say.
+// Image and buffer are lent, and the header is one that was read from the image: so each contract says what it asks of header, place, count and room.
 #[tactic(auto, using(crate::proofs::WorkLaws::warning_within), unfolding(crate::specs::Work::read_work, crate::specs::Work::read_ends))]
 fn read(image: &[u8], h: Header, state: State, asked: u32, buf: &mut [u8]) -> Outcome<State>
     requires image_value { header_of image.now ≡ Some h }
@@ -163,7 +163,7 @@ fn read_position(h: Header, state: State, buf: &mut [u8]) -> Outcome<State>
     reply(&position_bytes(h, state), POSITION_LENGTH, state, buf)
 }
 
-// asked: how many bytes of the lent buffer are the list, by the packet.
+// The buffer may be longer than the list: how long the list is the packet says (asked), and the definition has both.
 #[tactic(auto, unfolding(crate::specs::Work::select_work))]
 fn mode_select(state: State, asked: u8, list: &[u8]) -> Outcome<State>
     requires { asked ≤ length list.now }

@@ -61,7 +61,7 @@ fn asked_by(h: Header, q: Request) -> Asked
     }
 }
 
-// Header, record and request apart, as a packet device has them.
+// Header, record and request apart, as PacketDevice hands them over (packet_parts, shell.rt, says why).
 pub fn verdict(h: Header, state: State, q: Request, room: usize) -> Verdict
     ensures { result ≡ verdict_by (asked_by q.command h q) (is_protected h) state room }
 {

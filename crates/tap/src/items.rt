@@ -30,7 +30,7 @@ pub const END_MARK: u32 = 0xffffffff;
 pub const HIGH_BIT: u32 = 0x80000000;
 
 // What is left after the first word is compared, and not the place of the second: that could pass 64 bits.
-// The slice and a number: Reader, which 02, A7 asks for, ends here.
+// 01, "Forms by place": "few thin functions over a covered core of slice and number"; this and item_at are the core.
 #[tactic(auto, using(crate::proofs::ItemLaws::record_ways))]
 fn record_at(file: &[u8], at: usize, w: u32) -> Item
     requires { at + 4 ≤ length file.now }

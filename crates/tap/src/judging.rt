@@ -7,7 +7,7 @@ use crate::items::Item;
 use crate::reader::read;
 use numbers::refusals::Refusal;
 
-// What an item means for a reader with blocks of one size.
+// What an item means for a reader with blocks of one size: ControlFlow's two ways, by the names that the definition has.
 #[derive(Clone, Copy)]
 pub enum Turn {
     Takes(usize), // an element, and the place after it

@@ -19,7 +19,7 @@ fn length_word(length: u32, unreadable: bool) -> u32
     length
 }
 
-// The block becomes a record from place `at` of the file on; the answer is the place after it.
+// The block becomes a record from place `at` of the file on; the answer is the place after it, since records differ in length.
 #[tactic(auto, using(crate::proofs::WriteLaws::record_put))]
 pub fn put_record(file: &mut [u8], at: usize, block: &[u8], unreadable: bool) -> usize
     requires even_length { length block.now % 2 ≡ 0 }

@@ -63,7 +63,7 @@ pub fn leave<const N: usize, R: InBytes<N>>(
     }
 }
 
-// The same of a pulse call, with the ticks that it took.
+// Not by leave: the answer of a pulse call has 8 bytes, a level and the ticks that it took.
 pub fn leave_waited(state: &mut [u8; 32], answer: &mut [u8; 8], left: Result<Waited, Refusal>)
     ensures { pulse_card state.new answer.new ≡ waited_card state.old left }
 {

@@ -1,4 +1,5 @@
 // 01, 11h SPACE. Two loops each way: a filemark ends a run over blocks, and is what a run over filemarks counts.
+// The filemarks left are counted in the loop, as the definition does (marks_left).
 ghost use Rattle.std.specs.Prelude.{◌≡◌, ◌+◌, ◌-◌, ◌≤◌, length};
 ghost use Rattle.transfer.specs.Spacing.{blocks_on, blocks_back, marks_on, marks_back};
 
