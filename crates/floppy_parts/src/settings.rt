@@ -12,15 +12,14 @@ use opcodes::Command;
 use packet_parts::replies::SHORT_LIST;
 use packet_parts::requests::Request;
 
-// Two bytes by name, of a page of its own, and a test of its own: no more than the form is alike in is_good_list.
+// A page of its own and a test of its own: no more than the form is alike in is_good_list.
 // Of any header and list, as docs/PROMISES.md has it: refusals 2 and 4 have judged both; the header is the image's, the tape the record's.
 #[tactic(auto, unfolding(crate::specs::Settings::good_tape_list))]
 pub fn is_good_tape_list(h: Header, list: &[u8]) -> bool
     requires { 28 ≤ length list.now }
     ensures { result ≡ good_tape_list h list.now }
 {
-    (list[SHORT_LIST] == TAPE_PAGE)
-        & (list[SHORT_LIST + 1] == TAPE_PAGE_LENGTH)
+    list[SHORT_LIST..].starts_with(&[TAPE_PAGE, TAPE_PAGE_LENGTH])
         & (Tape::listed(list).product() <= h.capacity as u64)
 }
 

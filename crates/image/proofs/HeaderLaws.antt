@@ -1,8 +1,8 @@
 -- The header: the ways of `header_of`, what a good header keeps, and that the header goes by its bytes.
 -- Assumes nothing.
 use mathlib.Core.Path.{◌≡◌, refl, sym, ap, ◌∙◌}
-use mathlib.Core.Bool.{Bool, true, false, cond, ◌&&◌, ◌||◌, and-false, and-true, false≢true}
-use borrow.Author.Tests.{le-leb, eqb-true}
+use mathlib.Core.Bool.{Bool, true, false, cond, ◌&&◌, ◌||◌, and-false, false≢true}
+use borrow.Author.Tests.{eqb-true}
 use lib.Dec.{eqb}
 use mathlib.Core.List.{List}
 use Prim.Native.Nat.{ℕ, ◌+◌, ◌*◌, ◌%◌, ◌<◌, ◌≤◌}
@@ -67,13 +67,6 @@ ranges_bound h b p q =
     let g = each_of (field_ranges h) (sym p ∙ q) in
     let z = sized h.size g.1.1.1.1.1.0 in
     omega arith
-
--- all ranges but the block's size hold: the size decides
-pub by_size : (h : Header) (r : Bool) → 1 ≤ h.capacity → h.capacity ≤ 65535 → h.recorded ≤ h.capacity → h.protect ≤ 1 → h.warning ≤ h.capacity
-    → r ≡ is_in h.size block_sizes → r ≡ all_hold (field_ranges h)
-unfolding all_hold
-by_size h r a b c d e q =
-    rw (q, le-leb _ _ a, le-leb _ _ b, le-leb _ _ c, le-leb _ _ d, le-leb _ _ e, and-true)
 
 -- ---- a good header
 

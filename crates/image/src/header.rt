@@ -55,63 +55,39 @@ fn fields(image: &[u8]) -> Header
     }
 }
 
-// In these three a test for each rule of its list, in its order.
+// In these three a test for each rule of its list, in its order; the first stops before a slice that is too short is read.
+#[tactic(auto, unfolding(numbers::specs::RuleList::all_hold))]
 fn has_fixed_bytes(image: &[u8]) -> bool
     ensures { result ≡ all_hold (fixed_bytes image.now) }
 {
-    if image.len() < HEADER_LENGTH as usize {
-        return false;
-    }
-    if count2(image, 0) != HEADER_LENGTH {
-        return false;
-    }
-    if count4(image, 24) != 0 {
-        return false;
-    }
-    if count4(image, 28) != 0 {
-        return false;
-    }
-    true
+    image.len() >= HEADER_LENGTH as usize
+        && count2(image, 0) == HEADER_LENGTH
+        && count4(image, 24) == 0
+        && count4(image, 28) == 0
 }
 
+#[tactic(auto, unfolding(numbers::specs::RuleList::all_hold))]
 fn keeps_ranges(h: Header) -> bool
     ensures { result ≡ all_hold (field_ranges h) }
 {
-    let capacity = h.capacity;
-    if capacity < 1 {
-        return false;
-    }
-    if capacity > MOST_ELEMENTS {
-        return false;
-    }
-    if h.recorded > capacity {
-        return false;
-    }
-    if h.protect > 1 {
-        return false;
-    }
-    if h.warning as u32 > capacity {
-        return false;
-    }
-    is_block_size(h.size)
+    1 <= h.capacity
+        && h.capacity <= MOST_ELEMENTS
+        && h.recorded <= h.capacity
+        && h.protect <= 1
+        && h.warning as u32 <= h.capacity
+        && is_block_size(h.size)
 }
 
 // K + C and D + C*B can pass 32 bits, so they are summed in the 64 of a place in the image.
 // Asked only of a header that keeps its ranges: no type says that before header_of has judged, so the clause does.
+#[tactic(auto, unfolding(numbers::specs::RuleList::all_hold))]
 fn keeps_places(h: Header, n: usize) -> bool
     requires { (h.capacity ≤ 65535) × (h.size ≤ 1024) }
     ensures { result ≡ all_hold (place_rules h n) }
 {
-    if h.kinds < HEADER_LENGTH as u32 {
-        return false;
-    }
-    if h.kinds as usize + h.capacity as usize > h.blocks as usize {
-        return false;
-    }
-    if h.blocks as usize + span(h.capacity, h.size) as usize > n {
-        return false;
-    }
-    true
+    h.kinds >= HEADER_LENGTH as u32
+        && h.kinds as usize + h.capacity as usize <= h.blocks as usize
+        && h.blocks as usize + span(h.capacity, h.size) as usize <= n
 }
 
 pub fn header_of(image: &[u8]) -> Option<Header>

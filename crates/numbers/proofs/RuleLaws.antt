@@ -6,10 +6,6 @@ use mathlib.Core.List.{List, [], ◌∷◌}
 use borrow.Author.Tests.{le-leb, leb-true, eq-eqb, eqb-true}
 use Rattle.numbers.specs.RuleList.{Rule, ◌≤ʳ◌, ◌≡ʳ◌, ◌∈ʳ◌, holds, all_hold, Holds, Each}
 
-pub not_so : (t : Bool) → (t ≡ true → ⊥) → t ≡ false
-not_so true h = absurd (h refl)
-not_so false h = refl
-
 pub split : (a b : Bool) → (a && b) ≡ true → (a ≡ true) × (b ≡ true)
 split true b e = (refl, e)
 split false b e = (e, (cc))
@@ -34,6 +30,3 @@ pub pass : (rs : List Rule) → Each rs → all_hold rs ≡ true
 unfolding all_hold
 pass [] h = refl
 pass (r ∷ rs) h = simp (of_holds r h.0) (pass rs h.1)
-
-pub fail : (rs : List Rule) → (Each rs → ⊥) → all_hold rs ≡ false
-fail rs h = not_so (all_hold rs) (λ e. h (each_of rs e))

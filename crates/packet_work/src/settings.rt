@@ -12,14 +12,13 @@ use packet_state::state::{Outcome, State};
 // Where the page's speed stands in a list: bytes 14-15 after the header.
 const LIST_SPEED: usize = 26;
 
-// Each byte by its name, as the definition tests them.
 #[tactic(auto, unfolding(crate::specs::Settings::good_list))]
 fn is_good_list(list: &[u8]) -> bool
     requires { 32 ≤ length list.now }
     ensures { result ≡ good_list list.now }
 {
     let known = is_speed(count2(list, LIST_SPEED));
-    (list[SHORT_LIST] == DEVICE_PAGE) & (list[SHORT_LIST + 1] == DEVICE_PAGE_LENGTH) & known
+    list[SHORT_LIST..].starts_with(&[DEVICE_PAGE, DEVICE_PAGE_LENGTH]) & known
 }
 
 // A list of 32 bytes.
