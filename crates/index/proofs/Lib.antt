@@ -1,3 +1,4 @@
+pub mod BlankLaws
 pub mod MarkLaws
 pub mod EntryLaws
 pub mod LoopLaws

@@ -1,0 +1,8 @@
+use mathlib.Core.Bool.{◌&&◌}
+use mathlib.Core.Path.{◌≡◌}
+use lib.ListN.{drop}
+use Rattle.index.specs.Checking.{are_blank}
+use Rattle.index.proofs.checking.are_blank.Given as goal
+
+abbrev pub invariant-loop-byte : goal.invariant-loop-byte
+invariant-loop-byte l = (l.blank && are_blank (drop l.byte-index l.bytes)) ≡ are_blank l.bytes
