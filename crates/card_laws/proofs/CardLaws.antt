@@ -1,6 +1,6 @@
 -- The promises of the calls, kept.
 -- Assumes nothing.
-use mathlib.Core.Path.{◌≡◌, refl, sym, ap, ◌∙◌}
+use mathlib.Core.Path.{◌≡◌, refl, ap, ◌∙◌}
 use mathlib.Core.Bool.{Bool, true}
 use mathlib.Core.List.{List}
 use Prim.Native.Nat.{ℕ}
@@ -9,7 +9,6 @@ use Rattle.tapecard.proofs.Settling.{fresh_settled, change_settled, packet_settl
 use Rattle.tapecard.proofs.Settling.{insert_settled, remove_settled, wait_settled, trains_settled}
 use Rattle.tapecard.proofs.Settling.{index_make_settled, index_packet_settled, export_settled, import_settled}
 use Rattle.tapecard.proofs.Settling.{floppy_fresh_settled, floppy_change_settled, floppy_packet_settled}
-use Rattle.numbers.proofs.SameLaws.{same_of}
 use Rattle.packet_state.specs.declared.state.State.{State}
 use Rattle.packet_parts.specs.Answers.{Left}
 use Rattle.packet_laws.specs.Words.{Refusal}
@@ -17,6 +16,7 @@ use Rattle.stream.specs.Packet.{packet_step}
 use Rattle.stream_laws.proofs.Refusals.{refused_keeps}
 use Rattle.index.specs.Entries.{fresh_index, is_fresh}
 use Rattle.index.specs.Keeping.{Made, Indexed}
+use Rattle.index.proofs.KeepLaws.{fresh_stays}
 use Rattle.floppy_parts.specs.declared.tape.Floppy.{Floppy}
 use Rattle.floppy_laws.proofs.Refusals.{refused_keeps as floppy-refused-keeps}
 use Rattle.floppy_record.specs.FloppyRecord.{decode_floppy}
@@ -48,16 +48,11 @@ unfolding packet_call packet_left encode_answer
 packet_refused_untouched state image packet buf n =
     left_untouched state image buf (decode_state state) _ (refused_keeps image (decode_state state) packet buf n) n
 
--- an index that is fresh is made afresh as it stands
-fresh_stands : (s index : List ℕ) → is_fresh s index ≡ true → fresh_index s index ≡ index
-unfolding is_fresh
-fresh_stands s index e = sym (same_of index (fresh_index s index) e)
-
 indexed_untouched : (state image index packet buf : List ℕ) → is_fresh image index ≡ true → Refused (packet_call state image packet buf).answer
     → fresh_index (packet_step image (decode_state state) packet buf).image index ≡ index
 unfolding packet_call packet_left encode_answer
 indexed_untouched state image index packet buf f n =
-    ap (λ (s : List ℕ). fresh_index s index) (refused_keeps image (decode_state state) packet buf n).image_kept ∙ fresh_stands image index f
+    ap (λ (s : List ℕ). fresh_index s index) (refused_keeps image (decode_state state) packet buf n).image_kept ∙ fresh_stays image index f
 
 pub index_refused_untouched : IndexRefusedUntouched
 unfolding index_make_call made_left index_packet_call indexed_left packet_call packet_left encode_answer

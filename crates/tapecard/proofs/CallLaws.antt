@@ -33,7 +33,7 @@ use Rattle.tapecard.specs.ExchangeCalls.{export_told, export_left, export_call, 
 use Rattle.tapecard.specs.FloppyCalls.{floppy_card, floppy_told, floppy_left, floppy_packet_left}
 use Rattle.tapecard.specs.FloppyCalls.{floppy_fresh_call, floppy_change_call, floppy_packet_call}
 use Rattle.pulse_record.specs.PulseRecord.{decode_drive, encode_drive, described_cartridge, described_place}
-use Rattle.tapecard.specs.PulseCalls.{PulseCard, list_card, pulse_card, pulse_left, step_left, waited_left}
+use Rattle.tapecard.specs.PulseCalls.{PulseCard, list_card, pulse_left, step_left, waited_left}
 use Rattle.tapecard.specs.PulseCalls.{pulse_power_on, pulse_train, pulse_trains, pulse_tick, pulse_insert, pulse_remove, pulse_wait}
 
 -- ---- the packet drive, with an index and without, and an import

@@ -10,7 +10,7 @@ use numbers::refusals::Refusal;
 use pulse::{Drive, Waited};
 use pulse_record::{decode_drive, described_cartridge, described_place, encode_drive};
 
-// Every call but the wait takes no ticks.
+// The answer of every call but the wait tells 0 ticks, that of a tick too.
 fn at_once(left: Result<Drive, Refusal>) -> Result<Waited, Refusal>
     ensures { result ≡ at_once left }
 {
