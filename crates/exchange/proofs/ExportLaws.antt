@@ -1,7 +1,7 @@
 -- The elements of an image as a file has them, the loops that measure and write them, and the ways of `export`.
 -- Assumes nothing.
 use mathlib.Core.Path.{◌≡◌, refl, sym, ap, ◌∙◌}
-use mathlib.Core.Bool.{true, false, not, false≢true, true≢false}
+use mathlib.Core.Bool.{Bool, true, false, not, false≢true, true≢false}
 use mathlib.Core.List.{List, [], ◌∷◌}
 use Prim.Native.Nat.{ℕ, suc, ◌+◌, ◌*◌, ◌-◌, ◌%◌, ◌<◌, ◌≤◌}
 use native.Mathlib.Nat.{mul-le-mul_right}
@@ -10,7 +10,7 @@ use borrow.Author.Tests.{lt-ltb, le-ltb}
 use lib.ListN.{length}
 use Rattle.std.specs.Prelude.{Some, None, Ok, Err}
 use Rattle.numbers.specs.declared.refusals.Refusal.TheVariants.{BrokenImage, ShortBuffer}
-use Rattle.numbers.specs.Over.{over}
+use Rattle.numbers.specs.Over.{over, part}
 use Rattle.numbers.specs.Words.{word_bytes}
 use Rattle.numbers.proofs.OverLaws.{part_length, over_length}
 use Rattle.image.specs.declared.elements.Kind.{Kind}
@@ -73,6 +73,22 @@ module _ (s : List ℕ) (h : Header) (i : ℕ) (kind : Kind) (found : kind ≡ k
 
   pub the_block : is_filemark kind ≡ false → element_at s h i ≡ Block (not (holds_data kind)) (block_at s h.size h.blocks i)
   the_block e = rw found (element_block (kind_at s h.kinds i) (block_at s h.size h.blocks i) (rw found at e))
+
+-- a record that was put from the block's bytes is the element, and ends where the element ends
+module _ (s : List ℕ) (h : Header) (good : header_of s ≡ Some h) (i : ℕ) (within : i < h.capacity)
+    (kind : Kind) (found : kind ≡ kind_at s h.kinds i) (mark : Bool) (told : mark ≡ is_filemark kind) (not-mark : mark ≡ false) where
+  block-bytes : length (bytes_of (element_at s h i)) ≡ h.size + 8
+  block-bytes =
+      let e : is_filemark (kind_at s h.kinds i) ≡ false = rw (← found, ← told) not-mark in
+      at_length s h good i within ∙ rw e refl
+
+  pub block-put : (readable : Bool) (from r : ℕ) (file file' : List ℕ) (at : ℕ) → readable ≡ holds_data kind → from ≡ h.blocks + i * h.size
+      → r ≡ at + h.size + 8 → file' ≡ over file at (bytes_of (Block (not readable) (part s from h.size)))
+      → (r ≡ at + length (bytes_of (element_at s h i))) × (file' ≡ over file at (bytes_of (element_at s h i)))
+  unfolding block_at
+  block-put readable from r file file' at d q e f =
+      let z = the_block s h i kind found (rw (← told) not-mark) in
+      (omega (arith, block-bytes), rw z (rw (d, q) at f))
 
 pub tape_mark_bytes : bytes_of TapeMark ≡ word_bytes tape_mark
 unfolding bytes_of

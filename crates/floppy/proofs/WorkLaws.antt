@@ -11,7 +11,14 @@ use Rattle.image.specs.Header.{header_of}
 use Rattle.image.proofs.HeaderLaws.{sound}
 use Rattle.opcodes.specs.declared.Command.{Command}
 use Rattle.opcodes.specs.declared.Command.TheVariants.{ModeSelect}
+use Rattle.packet_state.specs.Answers.{Ending}
+use Rattle.packet_state.specs.declared.state.Outcome.{Outcome}
 use Rattle.packet_state.specs.declared.state.State.{State}
+use Rattle.packet_parts.specs.Answers.{done}
+use Rattle.packet_work.specs.Moving.{read_moves}
+use Rattle.transfer.specs.declared.Moved.{Moved}
+use Rattle.transfer.specs.Reading.{reads, read_from}
+use Rattle.floppy.specs.Work.{read_ending, read_ends, read_work}
 use Rattle.packet_parts.specs.declared.requests.Request.{Request}
 use Rattle.packet_parts.specs.Replies.{device_page, mode_header, device_page_bytes}
 use Rattle.packet_parts.specs.Requests.{page_code}
@@ -36,6 +43,16 @@ unfolding asked_by
 select_room k h end q n e l = rw e at l
 
 pub ruleset work_ways = (capacity_bound, select_room)
+
+-- ---- READ
+
+-- it answers what its run moved, as the run ended
+module _ (s : List ℕ) (h : Header) (end : ℕ) (st : State) (asked : ℕ) (buf new : List ℕ) (m : Moved)
+    (run : reads new m ≡ read_from s h.size h.kinds h.blocks end asked 0 st.position buf) where
+  pub read_went : (x : Ending) (r : Outcome State) → x ≡ read_ending m.stop m.left → r ≡ read_moves s h.kinds st asked h.size m x
+      → done r s new ≡ read_work s h end st asked buf
+  unfolding read_work read_ends
+  read_went x r p q = rw (← run, q, p)
 
 -- ---- 1Ah
 

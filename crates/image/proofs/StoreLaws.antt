@@ -5,18 +5,19 @@ use Rattle.std.specs.Prelude.{if◌then◌else◌}
 use mathlib.Core.Path.{◌≡◌, refl, sym, ap, ◌∙◌}
 use mathlib.Core.List.{List}
 use mathlib.Core.Logic.{◌⊎◌, inl, inr, ⊎_elim}
-use Prim.Native.Nat.{ℕ, ◌+◌, ◌*◌, ◌<◌, ◌≤◌}
+use Prim.Native.Nat.{ℕ, ◌+◌, ◌*◌, ◌-◌, ◌<◌, ◌≤◌}
 use native.Mathlib.Nat.{le_refl, mul-le-mul_right}
 use native.Mathlib.Omega.{arith}
 use borrow.Author.Tests.{lt-ltb, le-ltb, ltb-true, ltb-false}
 use lib.Dec.{ltb}
 use lib.ListN.{length, set, get_or, length-set}
 use lib.Seq.{get_or-set_same, get_or-set_other}
+use borrow.Rule.Slice.PartMut.{mid_of, put_mid}
 use Rattle.numbers.specs.Counts.{count_at, put_count}
 use Rattle.numbers.specs.Over.{over, part}
 use Rattle.numbers.proofs.Cases.{test, either}
 use Rattle.numbers.proofs.CountLaws.{length_put_count, put_count_below, put_count_above, count_read_back, count_by_bytes}
-use Rattle.numbers.proofs.OverLaws.{over_length, over_below, over_above, over_part, part_same}
+use Rattle.numbers.proofs.OverLaws.{over_length, over_below, over_above, over_part, part_same, copied_over}
 use Rattle.image.specs.declared.header.Header.{Header}
 use Rattle.std.specs.Prelude.{Some}
 use Rattle.image.specs.declared.elements.Kind.TheVariants.{Data, Filemark, Unreadable}
@@ -24,6 +25,12 @@ use Rattle.image.specs.Header.{fields_of, header_of, with_recorded}
 use Rattle.image.specs.Elements.{kind_of, kind_at, block_at, lay_as, lay_block, lay_unreadable, lay_mark, record_to}
 use Rattle.image.specs.Sameness.{Outside}
 use Rattle.image.proofs.HeaderLaws.{sound, fields_are, each_fixed, each_range, each_place, good_by, header_same}
+
+-- the code's laying is the definition's
+pub laid_so : (kind : ℕ) (s : List ℕ) (size kinds blocks i a k off : ℕ) (src ys new : List ℕ) → a ≡ blocks + i * size → k ≡ kinds + i
+    → ys ≡ over (mid_of a (length s - a) s) 0 (mid_of off (off + size - off) src) → new ≡ set (put_mid a (length s - a) s ys) k kind
+    → new ≡ lay_as kind s size kinds blocks i (part src off size)
+laid_so kind s size kinds blocks i a k off src ys new q r e f = rw (f, copied_over a off size s src ys e, q, r)
 
 apart : (j i : ℕ) → (j ≡ i → ⊥) → (j < i) ⊎ (i < j)
 apart j i n = test (ltb j i) (λ e. inl (ltb-true j i e)) (λ e. let g = ltb-false j i e in inr (omega (arith, n)))

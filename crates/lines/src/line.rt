@@ -1,28 +1,18 @@
 // What a line of a script has after its letter: bytes in hexadecimal, each after a space.
 ghost use Rattle.std.specs.Prelude.{◌≡◌, ℕ, ◌<◌, ◌≤◌, List, [], ◌∷◌, ◌++◌, length, take, IfSome};
 
-use std::marker::Model;
-
 const MOST: usize = 40;
 
-// As many as a line may have.
-#[derive(Drop)]
+// As many as a line may have: the first so many of the values.
+#[derive(Clone, Copy)]
 pub struct Bytes {
-    values: [u8; MOST],
-    count: usize,
-}
-
-impl Model for Bytes {
-    ghost Value = { List ℕ };
-
-    ghost view = { λ b. take b.count b.values };
-
-    ghost invariant = { λ b. b.count ≤ 40 };
+    pub values: [u8; 40],
+    pub count: usize,
 }
 
 impl Bytes {
     fn new() -> Bytes
-        ensures { result ≡ [] }
+        ensures { take result.count result.values ≡ [] }
     {
         Bytes {
             values: [0; MOST],
@@ -32,8 +22,9 @@ impl Bytes {
 
     // What comes after the fortieth is left out.
     fn push(&mut self, byte: u8)
-        ensures room { length self.old < 40 → self.new ≡ self.old ++ byte ∷ [] }
-        ensures full { 40 ≤ length self.old → self.new ≡ self.old }
+        ensures room { self.old.count < 40 → take self.new.count self.new.values ≡ take self.old.count self.old.values ++ byte ∷ [] }
+        ensures full { 40 ≤ self.old.count → self.new ≡ self.old }
+        ensures bound { self.old.count ≤ 40 → self.new.count ≤ 40 }
     {
         if self.count < MOST {
             self.values[self.count] = byte;
@@ -42,10 +33,10 @@ impl Bytes {
     }
 
     pub fn as_slice(&self) -> &[u8]
-        ensures value { result.now ≡ self.now }
+        ensures value { result.now ≡ take self.now.count self.now.values }
         ensures bound { length result.now ≤ 40 }
     {
-        &self.values[..self.count]
+        &self.values[..self.count.min(MOST)]
     }
 }
 
@@ -69,9 +60,11 @@ fn byte_of(spelled: &[u8]) -> Option<u8> {
 }
 
 // The bytes up to the first that is none, and no more than 40.
-pub fn bytes_of(spelled: &[u8]) -> Bytes {
+pub fn bytes_of(spelled: &[u8]) -> Bytes
+    ensures { result.count ≤ 40 }
+{
     let mut bytes = Bytes::new();
-    for byte in spelled.chunks(3).map_while(byte_of) {
+    for byte in spelled.chunks(3).take(MOST).map_while(byte_of) {
         bytes.push(byte);
     }
     bytes

@@ -1,15 +1,31 @@
--- What a table has, what is not in it, and the bound of its members.
+-- A table that is searched from its start, what it has, what is not in it, and the bound of its members.
 -- Assumes nothing.
 use mathlib.Core.Path.{◌≡◌, refl, ap}
-use mathlib.Core.Bool.{true, false, ◌||◌}
+use mathlib.Core.Bool.{Bool, true, false, ◌||◌}
 use mathlib.Core.List.{List, [], ◌∷◌}
-use Prim.Native.Nat.{ℕ, ◌≤◌, max}
+use Prim.Native.Nat.{ℕ, ◌+◌, ◌<◌, ◌≤◌, max}
+use native.Mathlib.Numerals.{add-one}
 use native.Mathlib.Omega.{arith}
-use borrow.Author.Tests.{eqb-true}
+use borrow.Author.Tests.{eq-eqb, ne_eqb, eqb-true}
+use lib.ListN.{length, get_or, drop, drop_of_length-le}
+use lib.Seq.{drop-cons}
 use Rattle.std.specs.List.{list_any}
 use Rattle.numbers.specs.Choice.{◌≡ᵇ◌}
 use Rattle.numbers.specs.Member.{is_in}
 use Rattle.numbers.proofs.Cases.{never, no_l, no_r, or_by}
+
+module _ (x : ℕ) (xs : List ℕ) (i : ℕ) (y : Bool) (so_far : is_in x (drop i xs) ≡ y) where
+  pub found : i < length xs → get_or xs i 0 ≡ x → true ≡ y
+  unfolding is_in
+  found h e = rw (drop-cons xs i 0 h, eq-eqb _ _ e) at so_far
+
+  pub not_yet : i < length xs → (get_or xs i 0 ≡ x → ⊥) → is_in x (drop (i + 1) xs) ≡ y
+  unfolding is_in
+  not_yet h n = rw add-one (rw (drop-cons xs i 0 h, ne_eqb _ _ n) at so_far)
+
+  pub not_found : length xs ≤ i → false ≡ y
+  unfolding is_in
+  not_found h = rw (drop_of_length-le xs h) at so_far
 
 -- the library's search of a table
 pub is_any : (x : ℕ) (ys : List ℕ) → is_in x ys ≡ list_any (λ y. y ≡ᵇ x) ys

@@ -1,15 +1,15 @@
 -- Laws of bytes laid over a part of a list.
 -- Assumes nothing.
 use mathlib.Core.Path.{◌≡◌, refl, sym, ap, ◌∙◌}
-use mathlib.Core.List.{List, [], ◌∷◌, ◌++◌, append_assoc}
+use mathlib.Core.List.{List, [], ◌∷◌, ◌++◌, append-nil, append_assoc}
 use Prim.Native.Nat.{ℕ, zero, suc, ◌+◌, ◌-◌, ◌<◌, ◌≤◌}
-use native.Mathlib.Nat.{le_refl}
+use native.Mathlib.Nat.{add-sub_cancel_left, le_refl, not-suc-le-zero, le_of_suc-le-suc}
 use native.Mathlib.Numerals.{add-one}
 use native.Mathlib.Omega.{arith}
-use lib.ListN.{length, take, drop, set, get_or, length-append, length-drop, take-append-drop, get_or-append}
-use lib.Seq.{take_all, length-take-le, get_or-take, get_or-drop, get_or-append-add, ext_get_or}
+use lib.ListN.{length, take, drop, set, get_or, length-append, length-drop, drop_of_length-le, take-append-drop, get_or-append}
+use lib.Seq.{take_all, take-length, length-take-le, get_or-take, get_or-drop, get_or-append-add, ext_get_or}
 use lib.Seq.{set_split, drop-drop, take_at, drop_at, take-append_seam, drop-append_seam}
-use borrow.Rule.Slice.PartMut.{mid_of}
+use borrow.Rule.Slice.PartMut.{mid_of, put_mid}
 use Rattle.numbers.specs.Over.{over, part}
 
 -- ---- a part
@@ -93,7 +93,38 @@ over_more s xs ys a h =
 pub over_after : (front s xs : List ℕ) → over (front ++ s) (length front) xs ≡ front ++ over s 0 xs
 over_after front s xs = rw (take-append_seam, drop-append_seam) refl
 
--- ---- a part that was lent, `&mut s[a..]`, as its borrower saw it
+-- ---- a copier's loop
+
+copied_more : (src d : List ℕ) (i : ℕ) → i < length src → i < length d → set (take i src ++ drop i d) i (get_or src i 0) ≡ take (suc i) src ++ drop (suc i) d
+copied_more [] d i h k = absurd (not-suc-le-zero h)
+copied_more (x ∷ xs) [] i h k = absurd (not-suc-le-zero k)
+copied_more (x ∷ xs) (y ∷ ys) zero h k = refl
+copied_more (x ∷ xs) (y ∷ ys) (suc i) h k = ap (λ (l : List ℕ). x ∷ l) (copied_more xs ys i (le_of_suc-le-suc h) (le_of_suc-le-suc k))
+
+module _ (src d dst : List ℕ) (i : ℕ) (so_far : dst ≡ take i src ++ drop i d) where
+  pub copied_next : i < length src → i < length d → set dst i (get_or src i 0) ≡ take (i + 1) src ++ drop (i + 1) d
+  copied_next h k = rw (so_far, add-one) (copied_more src d i h k)
+
+  pub copied_all : i ≡ length src → dst ≡ over d 0 src
+  copied_all q = rw (so_far, q, take-length)
+
+-- ---- a part that was lent, `&mut s[a..]` or `&s[a..a + n]`, as its borrower saw it and as it came back
 
 pub lent_rest : (a : ℕ) (s : List ℕ) → mid_of a (length s - a) s ≡ drop a s
 lent_rest a s = take_all (length s - a) (drop a s) (rw length-drop (le_refl _))
+
+pub lent_part : (a n : ℕ) (s : List ℕ) → mid_of a (a + n - a) s ≡ part s a n
+lent_part a n s = rw add-sub_cancel_left
+
+rest_back : (a : ℕ) (s ys : List ℕ) → put_mid a (length s - a) s ys ≡ take a s ++ ys
+rest_back a s ys = rw (drop_of_length-le (drop a s) {i = length s - a} (rw length-drop (le_refl _)), append-nil)
+
+-- a copier that was lent the rest of s from place off on, and the n bytes of t from place a on, has laid these over it
+pub copied_over : (off a n : ℕ) (s t ys : List ℕ)
+    → ys ≡ over (mid_of off (length s - off) s) 0 (mid_of a (a + n - a) t)
+    → put_mid off (length s - off) s ys ≡ over s off (part t a n)
+copied_over off a n s t ys e = rw (rest_back, e, lent_rest, lent_part)
+
+pub copy_fits : (off a n : ℕ) (s t : List ℕ) → a + n ≤ length t → off + n ≤ length s
+    → length (mid_of a (a + n - a) t) ≤ length (mid_of off (length s - off) s)
+copy_fits off a n s t h k = rw (lent_rest, lent_part, part_length t a n h, length-drop) (omega arith)

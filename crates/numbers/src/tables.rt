@@ -1,4 +1,4 @@
-// A speed looked for in its table, under the name that docs/PROMISES.md has; a table of bytes is searched by `contains` itself.
+// A number looked for in a table, under the name that docs/PROMISES.md has: a speed among the five, a count of 0 in a list of trains.
 ghost use Rattle.std.specs.Prelude.{◌≡◌};
 ghost use Rattle.numbers.specs.Member.{is_in};
 

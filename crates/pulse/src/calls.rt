@@ -18,57 +18,58 @@ pub struct Waited {
 }
 
 impl Drive {
-    // 01: "Pulse order: 8, then .."
-    pub(crate) fn judged(self) -> Result<Self, Refusal>
-        ensures { result ≡ if keeps_rules self then Ok self else Err RulesBroken }
+    // 01: "Pulse order: 8, then .."; the record is not handed back, since each call would copy it.
+    pub(crate) fn judged(&self) -> Result<(), Refusal>
+        ensures { result ≡ if keeps_rules self.now then Ok tt else Err RulesBroken }
     {
         if self.breaks_rules() {
             return Err(Refusal::RulesBroken);
         }
-        Ok(self)
+        Ok(())
     }
 
     #[tactic(auto, unfolding(crate::specs::Calls::train_call))]
     pub fn train(self, pulses: u16) -> Result<Self, Refusal>
         ensures { TrainPromise self pulses (told self result) }
     {
-        let drive = self.judged()?;
+        self.judged()?;
         if pulses == 0 {
             return Err(Refusal::EmptyTrain);
         }
-        Ok(drive.train_step(pulses))
+        Ok(self.train_step(pulses))
     }
 
     #[tactic(auto, unfolding(crate::specs::Calls::tick_call))]
     pub fn tick(self) -> Result<Self, Refusal>
         ensures { TickPromise self (told self result) }
     {
-        Ok(self.judged()?.tick_step())
+        self.judged()?;
+        Ok(self.tick_step())
     }
 
     #[tactic(auto, unfolding(crate::specs::Calls::insert_call))]
     pub fn insert(self, cart: Cartridge, place: u16) -> Result<Self, Refusal>
         ensures { InsertPromise self cart place (told self result) }
     {
-        let drive = self.judged()?;
-        if drive.marks.inside {
+        self.judged()?;
+        if self.marks.inside {
             return Err(Refusal::AlreadySo);
         }
         if rules::is_outside(cart, place) {
             return Err(Refusal::OutsideRanges);
         }
-        Ok(drive.insert_step(cart, place))
+        Ok(self.insert_step(cart, place))
     }
 
     #[tactic(auto, unfolding(crate::specs::Calls::remove_call))]
     pub fn remove(self) -> Result<Self, Refusal>
         ensures { RemovePromise self (told self result) }
     {
-        let drive = self.judged()?;
-        if !drive.marks.inside {
+        self.judged()?;
+        if !self.marks.inside {
             return Err(Refusal::AlreadySo);
         }
-        Ok(drive.remove_step())
+        Ok(self.remove_step())
     }
 
     fn wait_step(self, limit: u32) -> Waited
@@ -94,6 +95,7 @@ impl Drive {
     pub fn wait(self, limit: u32) -> Result<Waited, Refusal>
         ensures { WaitPromise self limit (told_wait self result) }
     {
-        Ok(self.judged()?.wait_step(limit))
+        self.judged()?;
+        Ok(self.wait_step(limit))
     }
 }

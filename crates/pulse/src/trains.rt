@@ -7,6 +7,7 @@ ghost use Rattle.pulse.specs.Trains.{after_list, levels_of, sent, TrainsPromise}
 use crate::drive::Drive;
 use numbers::flags::weight_of;
 use numbers::refusals::Refusal;
+use numbers::tables::is_in;
 
 impl Drive {
     // The rules are not judged again on the way: a train keeps them.
@@ -24,17 +25,17 @@ impl Drive {
         drive
     }
 
-    #[tactic(auto, unfolding(crate::specs::Trains::trains_call), using(numbers::proofs::MemberLaws::is_any))]
+    #[tactic(auto, unfolding(crate::specs::Trains::trains_call))]
     pub fn trains(self, counts: &[u16], levels: &mut [u8]) -> Result<Self, Refusal>
         ensures { TrainsPromise self counts.now levels.old (sent (told self result) levels.new) }
     {
-        let drive = self.judged()?;
-        if counts.contains(&0) {
+        self.judged()?;
+        if is_in(0, counts) {
             return Err(Refusal::EmptyTrain);
         }
         if levels.len() < counts.len() {
             return Err(Refusal::ShortBuffer);
         }
-        Ok(drive.send(counts, levels))
+        Ok(self.send(counts, levels))
     }
 }

@@ -1,5 +1,6 @@
 // The error numbers (000, section 3.5) that 01 admits, by name; a record may hold any byte until its rules are judged.
 ghost use Rattle.std.specs.Prelude.{◌≡◌};
+ghost use Rattle.numbers.specs.Member.{is_in};
 ghost use Rattle.pulse_codes.specs.Errors.{admitted, error_byte};
 
 #[derive(Clone, Copy, PartialEq, Eq)]
@@ -27,9 +28,21 @@ impl From<ErrorNumber> for u8 {
 // 01: "error 0, 1, 2, 6, 7, 8, 13, 19, 26 or 27"; under "Forms by place" it asks for a short constant table of them.
 const ADMITTED: [u8; 10] = [0, 1, 2, 6, 7, 8, 13, 19, 26, 27];
 
-#[tactic(auto, using(numbers::proofs::MemberLaws::is_any))]
+// By a loop, of which the compiler makes one test of bits for a constant table: each pulse call judges its record, so `contains` was felt.
+#[tactic(auto, using(numbers::proofs::MemberLaws::found, numbers::proofs::MemberLaws::not_yet, numbers::proofs::MemberLaws::not_found))]
+fn is_among(error: u8, table: &[u8]) -> bool
+    ensures { result ≡ is_in error table.now }
+{
+    for listed in table {
+        if *listed == error {
+            return true;
+        }
+    }
+    false
+}
+
 pub fn is_admitted(error: u8) -> bool
     ensures { result ≡ admitted error }
 {
-    ADMITTED.contains(&error)
+    is_among(error, &ADMITTED)
 }

@@ -1,6 +1,6 @@
 // The calls of the pulse drive.
 ghost use Rattle.std.specs.Prelude.{◌≡◌};
-ghost use Rattle.tapecard.specs.Leaving.{at_once};
+ghost use Rattle.tapecard.specs.Leaving.{at_once, waited_card};
 ghost use Rattle.tapecard.specs.PulseCalls.{list_card, pulse_card};
 ghost use Rattle.tapecard.specs.PulseCalls.{PulsePowerOnPromise, PulseTrainPromise, PulseTrainsPromise, PulseTickPromise};
 ghost use Rattle.tapecard.specs.PulseCalls.{PulseInsertPromise, PulseRemovePromise, PulseWaitPromise};
@@ -35,6 +35,13 @@ pub fn tapecard_pulse_train(state: &mut [u8; 32], pulses: u16, answer: &mut [u8;
     leave_waited(state, answer, at_once(left));
 }
 
+// What an accepted list leaves is what its last train would leave.
+fn leave_list(state: &mut [u8; 32], answer: &mut [u8; 8], left: Result<Drive, Refusal>)
+    ensures { pulse_card state.new answer.new ≡ waited_card state.old (at_once left) }
+{
+    leave_waited(state, answer, at_once(left)); // the level is the drive's
+}
+
 pub fn tapecard_pulse_trains(
     state: &mut [u8; 32],
     counts: &[u16],
@@ -45,7 +52,7 @@ pub fn tapecard_pulse_trains(
         (list_card (pulse_card state.new answer.new) levels.new) }
 {
     let left = decode_drive(state).trains(counts, levels);
-    leave_waited(state, answer, at_once(left)); // with the level after the last train
+    leave_list(state, answer, left);
 }
 
 #[tactic(auto, using(crate::proofs::CallLaws::tick_left))]

@@ -1,27 +1,25 @@
 -- Marked elements, one at a time: those found and those of the rest are those of the whole.
 -- Assumes nothing.
-use Rattle.std.specs.Prelude.{count_by, length}
-use Rattle.numbers.specs.Over.{part}
-use Rattle.numbers.proofs.OverLaws.{part_first}
-use Rattle.std.proofs.lemmas.List.Sums.{sum_by-cons}
 use mathlib.Core.Path.{◌≡◌, refl}
 use mathlib.Core.List.{List}
-use Prim.Native.Nat.{ℕ, zero, suc, ◌+◌, ◌≤◌}
+use Prim.Native.Nat.{ℕ, zero, suc, ◌+◌, ◌-◌, ◌<◌, ◌≤◌}
+use native.Mathlib.Nat.{add-sub_cancel_left}
 use native.Mathlib.Omega.{arith}
 use Rattle.image.specs.declared.elements.Kind.{Kind}
 use Rattle.image.specs.declared.elements.Kind.TheVariants.{Data, Filemark, Unreadable, Marked}
-use Rattle.image.specs.Elements.{kind_of, kind_at, is_marked}
+use Rattle.image.specs.Elements.{kind_at}
 use Rattle.transfer.specs.Marked.{marked_in, marked_from}
+use Rattle.transfer.proofs.EndLaws.{none_left, some_left}
 
--- the marked kinds among the bytes of the kind table
-pub marked_among : (s : List ℕ) (kinds n p : ℕ) → kinds + (p + n) ≤ length s
-    → count_by (λ byte. is_marked (kind_of byte)) (part s (kinds + p) n) ≡ marked_from s kinds n p
-unfolding marked_from kind_at
-marked_among s kinds zero p h = refl
-marked_among s kinds (suc n) p h =
-    let z : kinds + p + 1 ≡ kinds + (p + 1) = omega arith in
-    rw (part_first s (kinds + p) n (omega arith), z)
-    (rw (← marked_among s kinds n (p + 1) (omega arith)) (sum_by-cons (λ byte. marked_in (kind_of byte)) _ (part s (kinds + (p + 1)) n)))
+-- the loop's steps: the places from `at` to the end are left
+module _ (s : List ℕ) (kinds end at : ℕ) where
+  pub none_more : at ≡ end → marked_from s kinds (end - at) at ≡ 0
+  unfolding marked_from
+  none_more e = rw (none_left end at e) refl
+
+  pub one_more : at < end → marked_from s kinds (end - at) at ≡ marked_in (kind_at s kinds at) + marked_from s kinds (end - (at + 1)) (at + 1)
+  unfolding marked_from
+  one_more l = rw (some_left end at l) refl
 
 module _ (s : List ℕ) (kinds : ℕ) where
   -- an element counts 1 at most
@@ -39,3 +37,5 @@ module _ (s : List ℕ) (kinds : ℕ) where
       let o = one_at_most p _ (kind_at s kinds p) refl refl in
       let r = marked_few n (p + 1) in
       omega arith
+
+pub ruleset marked_ways = (none_more, one_more, marked_few, add-sub_cancel_left)

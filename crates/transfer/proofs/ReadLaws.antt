@@ -5,14 +5,16 @@ use mathlib.Core.Path.{◌≡◌, refl, sym, ap, ◌∙◌}
 use mathlib.Core.Bool.{Bool, true, false}
 use mathlib.Core.List.{List, append-nil}
 use Prim.Native.Nat.{ℕ, zero, suc, ◌+◌, ◌*◌, ◌-◌, ◌<◌, ◌≤◌}
-use native.Mathlib.Nat.{le_refl, mul-le-mul_right}
+use native.Mathlib.Nat.{le_refl, not-suc-le-zero, mul-le-mul_right}
+use native.Mathlib.Numerals.{sub-one}
 use native.Mathlib.Omega.{arith}
 use borrow.Author.Tests.{le-leb, lt-leb, leb-true, leb-false}
 use lib.Dec.{leb}
 use borrow.Rule.Slice.PartMut.{mid_of, put_mid}
 use lib.ListN.{length, get_or, length-take, length-drop, drop_of_length-le, drop}
 use Rattle.numbers.specs.Over.{over, part}
-use Rattle.numbers.proofs.OverLaws.{part_length, part_same, over_length, over_below, over_above, over_part, lent_rest}
+use Rattle.numbers.proofs.OverLaws.{part_length, part_same, over_length, over_below, over_above, over_part, lent_rest, copied_over}
+use Rattle.image.specs.declared.elements.Kind.{Kind}
 use Rattle.image.specs.Elements.{holds_data, kind_at, block_at}
 use Rattle.transfer.specs.declared.Moved.{Moved}
 use Rattle.transfer.specs.declared.Stop.TheVariants.{Full, AtEnd}
@@ -45,6 +47,17 @@ module _ (s : List ℕ) (size kinds blocks end n done off p : ℕ) (buf : List �
   read_copies l e t =
       let y : p + done + 1 ≡ p + (done + 1) = omega arith in
       rw (some_left n done l, lt-leb end (p + done) e, t, y) refl
+
+-- a block was copied from the image's bytes at a to the rest of the buffer, which came back as ys: the step in the words of what is lent
+module _ (s : List ℕ) (size kinds blocks end off p : ℕ) (buf : List ℕ) (X : Reading) where
+  pub read_next : (left a : ℕ) (kind : Kind) (b : Bool) (ys : List ℕ) → read_from s size kinds blocks end left off p buf ≡ X → 0 < left → p < end
+      → kind ≡ kind_at s kinds p → b ≡ holds_data kind → b ≡ true → a ≡ blocks + p * size
+      → ys ≡ over (mid_of off (length buf - off) buf) 0 (mid_of a (a + size - a) s)
+      → read_from s size kinds blocks end (left - 1) (off + size) (p + 1) (put_mid off (length buf - off) buf ys) ≡ X
+  unfolding read_from block_at
+  read_next zero a kind b ys i h l e k t q r = absurd (not-suc-le-zero h)
+  read_next (suc left) a kind b ys i h l e k t q r =
+      rw (copied_over off a size buf s ys r, q, sub-one) (rw (lt-leb end p l, ← e, ← k, t) at i)
 
 -- what is lent to the copier of one block, and what comes back
 

@@ -85,7 +85,17 @@ module _ (s : List ℕ) (kinds left at : ℕ) where
   unfolding marks_on
   marks_on_passes end f l = rw (some_left end at l, ne_eqb left 0 f) refl
 
-pub ruleset marks_on_ways = (marks_on_full, marks_on_at_end, marks_on_passes)
+-- the same of the places p, p + 1, .., of which `done` are done
+module _ (s : List ℕ) (kinds left p done : ℕ) where
+  pub marks_on_next : (end : ℕ) → (left ≡ 0 → ⊥) → p + done < end
+      → marks_on s kinds (end - (p + done)) left (p + done)
+      ≡ marks_on s kinds (end - (p + (done + 1))) (marks_left (kind_at s kinds (p + done)) left) (p + (done + 1))
+  unfolding marks_on
+  marks_on_next end f l =
+      let y : p + done + 1 ≡ p + (done + 1) = omega arith in
+      rw (some_left end (p + done) l, ne_eqb left 0 f, y) refl
+
+pub ruleset marks_on_ways = (marks_on_full, marks_on_at_end, marks_on_passes, marks_on_next)
 
 module _ (s : List ℕ) (kinds left : ℕ) where
   pub marks_back_full : (at : ℕ) → left ≡ 0 → marks_back s kinds at left ≡ halts at 0 Full

@@ -28,15 +28,16 @@ pub fn blocks_back(image: &[u8], h: Header, n: u32, p: u32) -> Moved
     requires { h.kinds + p ≤ length image.now }
     ensures { result ≡ blocks_back image.now h.kinds p n }
 {
-    for done in 0..n {
+    let room = n.min(p);
+    for done in 0..room {
         let at = p - done;
-        if at == 0 {
-            return halt(0, n - done, Stop::AtBeginning);
-        }
         let back = at - 1;
         if h.kind_at(image, back).is_filemark() {
             return halt(back, n - done, Stop::AtFilemark);
         }
+    }
+    if room < n {
+        return halt(0, n - room, Stop::AtBeginning);
     }
     halt(p - n, 0, Stop::Full)
 }
@@ -46,17 +47,18 @@ pub fn marks_on(image: &[u8], h: Header, end: u32, n: u32, p: u32) -> Moved
     requires { (h.kinds + end ≤ length image.now) × (p ≤ end) }
     ensures { result ≡ marks_on image.now h.kinds (end - p) n p }
 {
+    if n == 0 {
+        return halt(p, 0, Stop::Full);
+    }
     let mut left = n;
-    for at in p..end {
-        if left == 0 {
-            return halt(at, 0, Stop::Full);
-        }
+    for done in 0..end - p {
+        let at = p + done;
         if h.kind_at(image, at).is_filemark() {
             left -= 1;
+            if left == 0 {
+                return halt(at + 1, 0, Stop::Full);
+            }
         }
-    }
-    if left == 0 {
-        return halt(end, 0, Stop::Full);
     }
     halt(end, left, Stop::AtEnd)
 }
@@ -66,17 +68,17 @@ pub fn marks_back(image: &[u8], h: Header, n: u32, p: u32) -> Moved
     requires { h.kinds + p ≤ length image.now }
     ensures { result ≡ marks_back image.now h.kinds p n }
 {
+    if n == 0 {
+        return halt(p, 0, Stop::Full);
+    }
     let mut left = n;
     for at in (0..p).rev() {
-        if left == 0 {
-            return halt(at + 1, 0, Stop::Full);
-        }
         if h.kind_at(image, at).is_filemark() {
             left -= 1;
+            if left == 0 {
+                return halt(at, 0, Stop::Full);
+            }
         }
-    }
-    if left == 0 {
-        return halt(0, 0, Stop::Full);
     }
     halt(0, left, Stop::AtBeginning)
 }

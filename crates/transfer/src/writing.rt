@@ -33,12 +33,12 @@ pub fn write_filemarks(image: &mut [u8], h: Header, end: u32, n: u32, p: u32) ->
     requires p_le_end { p ≤ end }
     ensures { writes image.new result ≡ mark_from h.kinds end n p image.old }
 {
-    for done in 0..n {
-        let at = p + done;
-        if at >= end {
-            return halt(at, n - done, Stop::AtEnd);
-        }
-        h.lay_mark(image, at);
+    let room = n.min(end - p);
+    for done in 0..room {
+        h.lay_mark(image, p + done);
+    }
+    if room < n {
+        return halt(end, n - room, Stop::AtEnd);
     }
     halt(p + n, 0, Stop::Full)
 }
