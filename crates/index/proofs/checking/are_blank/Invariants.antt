@@ -4,5 +4,5 @@ use lib.ListN.{drop}
 use Rattle.index.specs.Checking.{are_blank}
 use Rattle.index.proofs.checking.are_blank.Given as goal
 
-abbrev pub invariant-loop-byte : goal.invariant-loop-byte
-invariant-loop-byte l = (l.blank && are_blank (drop l.byte-index l.bytes)) ≡ are_blank l.bytes
+abbrev pub invariant-loop-at : goal.invariant-loop-at
+invariant-loop-at l = (l.blank && are_blank (drop l.at l.bytes)) ≡ are_blank l.bytes
