@@ -35,7 +35,7 @@ pub fn tapecard_pulse_train(state: &mut [u8; 32], pulses: u16, answer: &mut [u8;
     leave_waited(state, answer, at_once(left));
 }
 
-// What an accepted list leaves is what its last train would leave.
+// What a list leaves, refused or not: told as a train is, at once, and with the level of the drive that it leaves.
 fn leave_list(state: &mut [u8; 32], answer: &mut [u8; 8], left: Result<Drive, Refusal>)
     ensures { pulse_card state.new answer.new ≡ waited_card state.old (at_once left) }
 {
